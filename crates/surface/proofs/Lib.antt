@@ -1,0 +1,2 @@
+-- The laws, over the definitions of specs/.
+pub mod Starred

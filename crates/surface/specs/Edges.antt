@@ -1,0 +1,116 @@
+-- Document 01, "Edges". Everything here is over any height order and any choice of diagonals; document 01's choice is `throughLowest`.
+use Prim.Native.Nat.{ℕ, suc, _+_, _-_, _*_, _<_}
+use mathlib.Core.Path.{_≡_}
+use mathlib.Core.Bool.{Bool, true, false, cond, not, _&&_, _||_}
+use mathlib.Core.List.{List, [], _∷_, _++_}
+use lib.Dec.{T, eqb}
+use Rattle.surface.specs.Lists.{keep, filter, any, all, takeWhile, lastOr}
+use Rattle.surface.specs.Plot.{row, column, virtualPit}
+
+-- the lowest member of a list in an order
+unfoldable pub lowestOr : (ℕ → ℕ → Bool) → ℕ → List ℕ → ℕ
+lowestOr lower x [] = x
+lowestOr lower x (y ∷ l) = lowestOr lower (cond (lower y x) y x) l
+
+unfoldable pub lowest : (ℕ → ℕ → Bool) → List ℕ → ℕ
+lowest lower [] = virtualPit
+lowest lower (x ∷ l) = lowestOr lower x l
+
+module _ (rows columns : ℕ) where
+  -- the four borders of the plot
+  abbrev pub top : ℕ → Bool
+  top p = eqb (row columns p) 0
+
+  abbrev pub bottom : ℕ → Bool
+  bottom p = eqb (row columns p + 1) rows
+
+  abbrev pub first : ℕ → Bool
+  first p = eqb (column columns p) 0
+
+  abbrev pub last : ℕ → Bool
+  last p = eqb (column columns p + 1) columns
+
+  abbrev pub isBorder : ℕ → Bool
+  isBorder p = top p || (last p || (bottom p || first p))
+
+  -- A cell is named by its top left post a:     a ------ a + 1
+  -- it is there where a is in neither the       |          |
+  -- last column nor the bottom row.          a + columns - a + columns + 1
+  abbrev pub isCell : ℕ → Bool
+  isCell a = not (last a) && not (bottom a)
+
+-- A choice of diagonals says of each cell a whether its diagonal falls, from top left to bottom right, or rises, from bottom left to top right.
+-- Document 01's is the one through the cell's lowest post.
+unfoldable pub throughLowest : (ℕ → ℕ → Bool) → ℕ → ℕ → Bool
+throughLowest lower columns a =
+    let l = lowest lower (a ∷ (a + 1) ∷ (a + columns) ∷ (a + columns + 1) ∷ []) in
+    eqb l a || eqb l (a + columns + 1)
+
+-- Edges: the sides of cells, their diagonals, and one from each border post to the virtual pit.
+pub data Corner : Type 0 where
+  nw ne sw se : Corner
+
+abbrev pub corner : ℕ → ℕ → Corner → ℕ
+corner columns a nw = a
+corner columns a ne = a + 1
+corner columns a sw = a + columns
+corner columns a se = a + columns + 1
+
+-- two corners of a cell are joined by a side or by the cell's diagonal
+abbrev pub joined : Bool → Corner → Corner → Bool
+joined fall nw nw = false
+joined fall nw ne = true
+joined fall nw sw = true
+joined fall nw se = fall
+joined fall ne nw = true
+joined fall ne ne = false
+joined fall ne sw = not fall
+joined fall ne se = true
+joined fall sw nw = true
+joined fall sw ne = not fall
+joined fall sw sw = false
+joined fall sw se = true
+joined fall se nw = fall
+joined fall se ne = true
+joined fall se sw = true
+joined fall se se = false
+
+module _ (rows columns : ℕ) (falls : ℕ → Bool) where
+  pub data Edge (p q : ℕ) : Type 0 where
+    ofCell : (a : ℕ) → a < rows * columns → T (isCell rows columns a) → (i j : Corner) → T (joined (falls a) i j) → p ≡ corner columns a i → q ≡ corner columns a j → Edge p q
+    toPit : p < rows * columns → T (isBorder rows columns p) → q ≡ virtualPit → Edge p q
+    fromPit : q < rows * columns → T (isBorder rows columns q) → p ≡ virtualPit → Edge p q
+
+  -- The ring of a post: its neighbours clockwise from north.   NW  N  NE
+  -- On a border post the virtual pit stands at N in the         W  p  E
+  -- top row, else at E in the last column, else at S in        SW  S  SE
+  -- the bottom row, else at W.
+  unfoldable pub ring : ℕ → List ℕ
+  ring p =
+      let t = top rows columns p in
+      let b = bottom rows columns p in
+      let f = first rows columns p in
+      let l = last rows columns p in
+      cond t virtualPit (p - columns)
+      ∷ keep (not t && (not l && not (falls (p - columns)))) (p - columns + 1)
+      ++ keep (not (l && t)) (cond l virtualPit (p + 1))
+      ++ keep (not l && (not b && falls p)) (p + columns + 1)
+      ++ keep (not (b && (t || l))) (cond b virtualPit (p + columns))
+      ++ keep (not b && (not f && not (falls (p - 1)))) (p + columns - 1)
+      ++ keep (not (f && (t || (l || b)))) (cond f virtualPit (p - 1))
+      ++ keep (not f && (not t && falls (p - columns - 1))) (p - columns - 1)
+
+-- A run is a longest stretch of the ring, taken as a circle, whose members all pass the test. Here are those that start in l, in order: a run starts
+-- where a member passes and the one before it, of which `before` tells, does not. `circle` is what follows l on the circle.
+unfoldable pub runsFrom : (ℕ → Bool) → Bool → List ℕ → List ℕ → List (List ℕ)
+runsFrom s before [] circle = []
+runsFrom s before (x ∷ l) circle = keep (s x && not before) (takeWhile s (x ∷ l ++ circle)) ++ runsFrom s (s x) l circle
+
+-- the runs of a ring, numbered by the ring place of their first member; a ring all of one sort is one run
+unfoldable pub runs : (ℕ → Bool) → List ℕ → List (List ℕ)
+runs s [] = []
+runs s (x ∷ l) = cond (all s (x ∷ l)) ((x ∷ l) ∷ []) (runsFrom s (s (lastOr x l)) (x ∷ l) (x ∷ l))
+
+-- the runs of p's ring below p; those above p are these in the reversed order
+abbrev pub lowerRuns : (ℕ → ℕ → Bool) → (ℕ → List ℕ) → ℕ → List (List ℕ)
+lowerRuns lower ringOf p = runs (λ q. lower q p) (ringOf p)

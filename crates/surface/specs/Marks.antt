@@ -1,0 +1,53 @@
+-- Document 01, "Marks and counts". Over any order and any rings; document 01's own are `markAt` and `marksOf`.
+use Prim.Native.Nat.{ℕ, suc, _+_, _-_, _*_}
+use mathlib.Core.Bool.{Bool, true, false, cond, not, _&&_, _||_}
+use mathlib.Core.List.{List, [], _∷_, map}
+use lib.Dec.{leb, eqb}
+use lib.IntN.{ℤ}
+use lib.ListN.{length, getD, set}
+use Rattle.surface.specs.Lists.{listOf, any, count, total}
+use Rattle.surface.specs.Plot.{row, column, below, reversed}
+use Rattle.surface.specs.Edges.{ring, throughLowest, lowerRuns}
+
+-- 1 peak: no neighbour is above. 2 pit: no neighbour is below. 0 ordinary: one lower run. 3, 4, 5: a saddle of 2, 3, 4 lower runs
+unfoldable pub markFor : Bool → Bool → ℕ → ℕ
+markFor someAbove someBelow k = cond (not someAbove) 1 (cond (not someBelow) 2 (cond (eqb k 1) 0 (k + 1)))
+
+unfoldable pub mark : (ℕ → ℕ → Bool) → (ℕ → List ℕ) → ℕ → ℕ
+mark lower ringOf p =
+    markFor (any (λ q. lower p q) (ringOf p)) (any (λ q. lower q p) (ringOf p)) (length (lowerRuns lower ringOf p))
+
+-- the multiplicity of a saddle by its mark, 0 for every other mark
+abbrev pub multiplicity : ℕ → ℕ
+multiplicity m = m - 2
+
+-- the three counts of a list of marks; the virtual pit is a pit
+unfoldable pub peaks : List ℕ → ℕ
+peaks marks = count (λ m. eqb m 1) marks
+
+unfoldable pub pits : List ℕ → ℕ
+pits marks = suc (count (λ m. eqb m 2) marks)
+
+unfoldable pub saddles : List ℕ → ℕ
+saddles marks = total (map multiplicity marks)
+
+-- document 01's rings, with the diagonals through the lowest posts, and its marks
+unfoldable pub ringOf : ℕ → ℕ → List ℤ → ℕ → List ℕ
+ringOf rows columns hs = ring rows columns (throughLowest (below hs) columns)
+
+unfoldable pub markAt : ℕ → ℕ → List ℤ → ℕ → ℕ
+markAt rows columns hs = mark (below hs) (ringOf rows columns hs)
+
+unfoldable pub marksOf : ℕ → ℕ → List ℤ → List ℕ
+marksOf rows columns hs = listOf (markAt rows columns hs) (rows * columns)
+
+-- two posts are the same or touch by side or corner
+abbrev pub near : ℕ → ℕ → Bool
+near a b = leb a (b + 1) && leb b (a + 1)
+
+unfoldable pub touches : ℕ → ℕ → ℕ → Bool
+touches columns p q = near (row columns p) (row columns q) && near (column columns p) (column columns q)
+
+-- a re-shoot writes afresh the marks of post p and of those that touch it
+unfoldable pub redrawn : ℕ → ℕ → List ℤ → List ℕ → ℕ → List ℕ
+redrawn rows columns hs marks p = listOf (λ i. cond (touches columns p i) (markAt rows columns hs i) (getD marks i 0)) (length marks)

@@ -1,0 +1,159 @@
+-- Document 01, "What the panel shows when a call is turned away": the table, and for each call the rows that it has a use for, in order.
+use Prim.Native.Nat.{ℕ, zero, suc, _+_, _-_, _*_}
+use mathlib.Core.Bool.{Bool, true, false, cond, not, _&&_, _||_}
+use mathlib.Core.List.{List, [], _∷_, map}
+use lib.Dec.{leb, ltb, eqb}
+use lib.IntN.{ℤ}
+use lib.ListN.{length, getD}
+use Rattle.surface.specs.Lists.{firstNot}
+use Rattle.surface.specs.Plot.{isSide, isHeight, below, reversed}
+use Rattle.surface.specs.Edges.{lowerRuns}
+use Rattle.surface.specs.Marks.{ringOf, markAt}
+use Rattle.surface.specs.Lines.{thalweg, ridge}
+use Rattle.surface.specs.SurveyFile.{statedCount, countFor, fileSize, isTenths, tenthsOf}
+
+-- a row of the table: when it holds, what is returned and the place
+pub record Row : Type 0 where
+  pub holds : Bool
+  pub code : ℕ
+  pub place : ℕ
+
+-- what a call returns first: number and place, 0 and 0 where it is accepted
+pub record Verdict : Type 0 where
+  pub code : ℕ
+  pub place : ℕ
+
+-- where several rows hold, the upper row wins
+unfoldable pub verdict : List Row → Verdict
+verdict [] = record { code = 0; place = 0 }
+verdict (r ∷ rs) = cond (r .holds) (record { code = r .code; place = r .place }) (verdict rs)
+
+abbrev pub isAccepted : Verdict → Bool
+isAccepted v = eqb (v .code) 0
+
+-- what stands afterwards: `new` where the call was accepted, `old` where it was refused
+abbrev pub settled : {A : Type 0} → Verdict → A → A → A
+settled v new old = cond (isAccepted v) new old
+
+-- a row whose place is 0
+abbrev pub rowOf : ℕ → Bool → Row
+rowOf code holds = record { holds = holds; code = code; place = 0 }
+
+-- the list has another length than n
+abbrev pub isNot : {A : Type 0} → List A → ℕ → Bool
+isNot l n = not (eqb (length l) n)
+
+module _ (rows columns : ℕ) where
+  -- 1: rows or columns outside 2 to 120
+  abbrev pub row1 : Row
+  row1 = rowOf 1 (not (isSide rows && isSide columns))
+
+  -- 2: heights lent to be read are not rows times columns
+  abbrev pub row2 : List ℤ → Row
+  row2 hs = rowOf 2 (isNot hs (rows * columns))
+
+  -- 3: another lent list is not exactly its size
+  abbrev pub row3 : {A : Type 0} → List A → ℕ → Row
+  row3 l n = rowOf 3 (isNot l n)
+
+  -- 4: a height outside its range; the place is the first such post
+  abbrev pub row4 : (ℤ → Bool) → List ℤ → Row
+  row4 isIn hs = record { holds = ltb (firstNot isIn hs) (length hs); code = 4; place = firstNot isIn hs }
+
+  -- 5: post number not below rows times columns
+  abbrev pub row5 : ℕ → Row
+  row5 post = rowOf 5 (not (ltb post (rows * columns)))
+
+  -- 6: new height outside its range
+  abbrev pub row6 : ℤ → Row
+  row6 new = rowOf 6 (not (isHeight new))
+
+  -- 7: a line of a post that is no saddle
+  abbrev pub row7 : List ℤ → ℕ → Row
+  row7 hs post = rowOf 7 (ltb (markAt rows columns hs post) 3)
+
+  -- 8: run number not below the post's runs of that sort
+  abbrev pub row8 : (ℕ → ℕ → Bool) → List ℤ → ℕ → ℕ → Row
+  row8 lower hs post run = rowOf 8 (not (ltb run (length (lowerRuns lower (ringOf rows columns hs) post))))
+
+  -- 9: the line has more entries than its list
+  abbrev pub row9 : List ℕ → List ℕ → Row
+  row9 entries list = rowOf 9 (ltb (length list) (length entries))
+
+-- 10: file under 7 bytes
+abbrev pub row10 : List ℕ → Row
+row10 file = rowOf 10 (ltb (length file) 7)
+
+-- 11: version not 1
+abbrev pub row11 : List ℕ → Row
+row11 file = rowOf 11 (not (eqb (getD file 0 0) 1))
+
+-- 12: stated count differs from the bytes present after it, or from the count rule
+abbrev pub row12 : List ℕ → ℕ → ℕ → Row
+row12 file rows columns =
+    rowOf 12 (not (eqb (statedCount file) (length file - 5)) || not (eqb (statedCount file) (countFor rows columns)))
+
+-- What each call is turned away for.
+module _ (rows columns : ℕ) (hs : List ℤ) where
+  unfoldable pub surveyVerdict : List ℕ → Verdict
+  surveyVerdict marks =
+      verdict (row1 rows columns ∷ row2 rows columns hs ∷ row3 rows columns marks (rows * columns) ∷ row4 rows columns isHeight hs ∷ [])
+
+  unfoldable pub reshootVerdict : List ℕ → ℕ → ℤ → Verdict
+  reshootVerdict marks post new =
+      verdict
+      (row1 rows columns
+      ∷ row2 rows columns hs
+      ∷ row3 rows columns marks (rows * columns)
+      ∷ row4 rows columns isHeight hs
+      ∷ row5 rows columns post
+      ∷ row6 rows columns new
+      ∷ [])
+
+  unfoldable pub nextVerdict : ℕ → Verdict
+  nextVerdict post = verdict (row1 rows columns ∷ row2 rows columns hs ∷ row4 rows columns isHeight hs ∷ row5 rows columns post ∷ [])
+
+  -- of a line in the order `lower` whose entries are `entries`
+  unfoldable pub lineVerdict : (ℕ → ℕ → Bool) → List ℕ → ℕ → ℕ → List ℕ → Verdict
+  lineVerdict lower entries post run list =
+      verdict
+      (row1 rows columns
+      ∷ row2 rows columns hs
+      ∷ row4 rows columns isHeight hs
+      ∷ row5 rows columns post
+      ∷ row7 rows columns hs post
+      ∷ row8 rows columns lower hs post run
+      ∷ row9 rows columns entries list
+      ∷ [])
+
+  unfoldable pub partsVerdict : List ℕ → List ℕ → Verdict
+  partsVerdict dales hills =
+      verdict
+      (row1 rows columns
+      ∷ row2 rows columns hs
+      ∷ rowOf 3 (isNot dales (rows * columns) || isNot hills (rows * columns))
+      ∷ row4 rows columns isHeight hs
+      ∷ [])
+
+  unfoldable pub writeVerdict : List ℕ → Verdict
+  writeVerdict file =
+      verdict
+      (row1 rows columns
+      ∷ row2 rows columns hs
+      ∷ row3 rows columns file (fileSize rows columns)
+      ∷ row4 rows columns isHeight hs
+      ∷ [])
+
+-- of reading a file into a list that receives the heights
+unfoldable pub readVerdict : List ℕ → List ℤ → Verdict
+readVerdict file hs =
+    let rows = getD file 5 0 in
+    let columns = getD file 6 0 in
+    verdict
+    (row10 file
+    ∷ row11 file
+    ∷ row1 rows columns
+    ∷ row12 file rows columns
+    ∷ row3 rows columns hs (rows * columns)
+    ∷ row4 rows columns isTenths (tenthsOf file (rows * columns))
+    ∷ [])

@@ -1,0 +1,50 @@
+-- Document 01, "A series of re-shoots".
+use Prim.Native.Nat.{ℕ, zero, suc, _+_, _*_}
+use mathlib.Core.Path.{_≡_}
+use mathlib.Core.Bool.{Bool, true, false, cond}
+use mathlib.Core.List.{List, [], _∷_}
+use lib.Dec.{T}
+use lib.IntN.{ℤ}
+use lib.ListN.{length, replicate, set}
+use Rattle.surface.specs.Refusals.{isAccepted, settled, reshootVerdict}
+use Rattle.surface.specs.Calls.{reshootHeights, reshootMarks}
+
+-- a re-shoot's arguments, the two lists left out
+pub record Reshoot : Type 0 where
+  pub rows : ℕ
+  pub columns : ℕ
+  pub post : ℕ
+  pub new : ℤ
+
+-- a sheet: the heights and the marks that are lent
+pub record Sheet : Type 0 where
+  pub heights : List ℤ
+  pub marks : List ℕ
+
+-- a sheet after one re-shoot, and after a series
+unfoldable pub after : Sheet → Reshoot → Sheet
+after s c =
+    record {
+      heights = reshootHeights (c .rows) (c .columns) (s .heights) (s .marks) (c .post) (c .new);
+      marks = reshootMarks (c .rows) (c .columns) (s .heights) (s .marks) (c .post) (c .new);
+    }
+
+unfoldable pub afterAll : Sheet → List Reshoot → Sheet
+afterAll s [] = s
+afterAll s (c ∷ cs) = afterAll (after s c) cs
+
+-- the accepted ones have the survey's rows and columns
+unfoldable pub Kept : ℕ → ℕ → Sheet → List Reshoot → Type 0
+Kept rows columns s [] = Unit {0}
+Kept rows columns s (c ∷ cs) =
+    (T (isAccepted (reshootVerdict (c .rows) (c .columns) (s .heights) (s .marks) (c .post) (c .new))) → (c .rows ≡ rows) × (c .columns ≡ columns))
+    × Kept rows columns (after s c) cs
+
+-- the plain list of heights kept next to it: as many marks stand for the lists lent
+unfoldable pub plain : List ℤ → Reshoot → List ℤ
+plain hs c =
+    settled (reshootVerdict (c .rows) (c .columns) hs (replicate (length hs) 0) (c .post) (c .new)) (set hs (c .post) (c .new)) hs
+
+unfoldable pub plainAll : List ℤ → List Reshoot → List ℤ
+plainAll hs [] = hs
+plainAll hs (c ∷ cs) = plainAll (plain hs c) cs
