@@ -8,4 +8,5 @@ pub mod Runs
 pub mod Signs
 pub mod Census
 pub mod Balance
+pub mod Walks
 pub mod Starred

@@ -1,0 +1,151 @@
+-- Law 5, walks: over any strict total order, any rings of vertices and any choice among the lower neighbours, a walk falls at every step and comes to an
+-- end within as many steps as there are posts. Downward that is a water line's walk to a pit; upward, in the reversed order, a crest line's to a peak.
+use Prim.Native.Nat.{ℕ, zero, suc, _+_, _-_, _*_, _≤_, _<_}
+use native.Mathlib.Omega.{arith}
+use mathlib.Core.Path.{_≡_, refl, sym, _∙_, ap, ap₂, subst}
+use mathlib.Core.Logic.{_⊎_, ⊎-elim, inl, inr}
+use mathlib.Core.Bool.{Bool, true, false, cond, not, _&&_, _||_, true≢false}
+use mathlib.Core.List.{List, [], _∷_, _++_, List·Memᴰ, List·Memᴰ·head, List·Memᴰ·tail, List·Memᴰ·cases-cons, List·Memᴰ·not-nil}
+use lib.Dec.{eqb}
+use lib.ListN.{length, getD}
+use borrow.Author.Tests.{eqb-true, eq-eqb, ne-eqb, not-true, not-false}
+use Rattle.surface.specs.Lists.{filter, any, keep, lastOr, one}
+use Rattle.surface.specs.Plot.{virtualPit}
+use Rattle.surface.specs.Lines.{isEnd, next, walk, end, fallsFrom}
+use Rattle.surface.proofs.Order.{StrictTotal, rank, rank-falls, rank-le}
+use Rattle.surface.proofs.Bools.{or-left, or-right}
+
+-- what passes a test
+pub filter-member : (s : ℕ → Bool) (l : List ℕ) (q : ℕ) → List·Memᴰ q (filter s l) → List·Memᴰ q l × (s q ≡ true)
+unfolding filter
+filter-member s [] q m = absurd (List·Memᴰ·not-nil m)
+filter-member s (x ∷ l) q m = go (s x) refl (filter-member s l q) m
+  where
+    go : (b : Bool) → s x ≡ b → (List·Memᴰ q (filter s l) → List·Memᴰ q l × (s q ≡ true)) → List·Memᴰ q (keep b x ++ filter s l)
+        → List·Memᴰ q (x ∷ l) × (s q ≡ true)
+    go true e ih m =
+        ⊎-elim (λ (h : q ≡ x). (List·Memᴰ·head h, ap s h ∙ e)) (λ (h : List·Memᴰ q (filter s l)). (List·Memᴰ·tail (ih h .0), ih h .1))
+        (List·Memᴰ·cases-cons m)
+    go false e ih m = (List·Memᴰ·tail (ih m .0), ih m .1)
+
+-- something passes a test
+pub filter-some : (s : ℕ → Bool) (l : List ℕ) → any s l ≡ true → (q : ℕ) × List·Memᴰ q (filter s l)
+unfolding filter any
+filter-some s [] h = absurd (true≢false (sym h))
+filter-some s (x ∷ l) h = go (s x) (filter-some s l) h
+  where
+    go : (b : Bool) → (any s l ≡ true → (q : ℕ) × List·Memᴰ q (filter s l)) → b || any s l ≡ true → (q : ℕ) × List·Memᴰ q (keep b x ++ filter s l)
+    go true ih h = (x, List·Memᴰ·head refl)
+    go false ih h = ih h
+
+-- posts and the virtual pit
+abbrev pub Vertex : ℕ → ℕ → Type 0
+Vertex n p = (p < n) ⊎ (p ≡ virtualPit)
+
+-- A descent: an order, rings of vertices, a choice that picks a member of every list that has one.
+pub record Descent (n : ℕ) (lower : ℕ → ℕ → Bool) (ring : ℕ → List ℕ) (pick : ℕ → List ℕ → ℕ) : Type 0 where
+  pub order : StrictTotal lower
+  pub ringVertex : (p q : ℕ) → p < n → List·Memᴰ q (ring p) → Vertex n q
+  pub picksMember : (p q : ℕ) (l : List ℕ) → List·Memᴰ q l → List·Memᴰ (pick p l) l
+
+module _ {n : ℕ} {lower : ℕ → ℕ → Bool} {ring : ℕ → List ℕ} {pick : ℕ → List ℕ → ℕ} (d : Descent n lower ring pick) where
+  abbrev stop : ℕ → Bool
+  stop = isEnd lower ring pick
+
+  abbrev go-on : ℕ → ℕ
+  go-on = next lower ring pick
+
+  pub next-stop : (p : ℕ) → stop p ≡ true → go-on p ≡ p
+  unfolding next
+  next-stop p h = rw h
+
+  pub pit-stop : stop virtualPit ≡ true
+  unfolding isEnd
+  pit-stop = rw (eq-eqb virtualPit virtualPit refl)
+
+  -- a step that is no stop goes to a lower member of the ring
+  pub record Step (p : ℕ) : Type 0 where
+    pub post : p < n
+    pub member : List·Memᴰ (go-on p) (ring p)
+    pub falls : lower (go-on p) p ≡ true
+    pub vertex : Vertex n (go-on p)
+    pub sinks : rank lower n (go-on p) < rank lower n p
+
+  pub next-step : (p : ℕ) → Vertex n p → stop p ≡ false → Step p
+  unfolding next isEnd
+  next-step p v h = record { post = post; member = member .0; falls = member .1; vertex = vertex; sinks = rank-falls lower (d .order) n (go-on p) p vertex (member .1) }
+    where
+      post : p < n
+      post = ⊎-elim (λ (k : p < n). k) (λ (k : p ≡ virtualPit). absurd (true≢false (sym pit-stop ∙ ap stop (sym k) ∙ h))) v
+
+      some : any (λ q. lower q p) (ring p) ≡ true
+      some = not-false _ (or-right (eqb p virtualPit) _ h)
+
+      picked : List·Memᴰ (pick p (filter (λ q. lower q p) (ring p))) (filter (λ q. lower q p) (ring p))
+      picked = let k = filter-some (λ q. lower q p) (ring p) some in d .picksMember p (k .0) _ (k .1)
+
+      member : List·Memᴰ (go-on p) (ring p) × (lower (go-on p) p ≡ true)
+      member = rw h (filter-member (λ q. lower q p) (ring p) _ picked)
+
+      vertex : Vertex n (go-on p)
+      vertex = d .ringVertex p (go-on p) post (member .0)
+
+  -- an end stays
+  pub end-stop : (m p : ℕ) → stop p ≡ true → end lower ring pick m p ≡ p
+  unfolding end
+  end-stop zero p h = refl
+  end-stop (suc m) p h = rw (next-stop p h) (end-stop m p h)
+
+  -- as many steps as the rank lead to an end, and further ones change nothing
+  pub end-reached : (m p : ℕ) → Vertex n p → rank lower n p ≤ m → stop (end lower ring pick m p) ≡ true
+  unfolding end
+  end-reached zero p v h = go (stop p) refl
+    where
+      go : (b : Bool) → stop p ≡ b → b ≡ true
+      go true e = refl
+      go false e = absurd (omega (arith, next-step p v e .sinks))
+  end-reached (suc m) p v h = go (stop p) refl (end-reached m (go-on p))
+    where
+      go : (b : Bool) → stop p ≡ b → (Vertex n (go-on p) → rank lower n (go-on p) ≤ m → stop (end lower ring pick m (go-on p)) ≡ true)
+          → stop (end lower ring pick m (go-on p)) ≡ true
+      go true e ih = rw (next-stop p e, end-stop m p e) e
+      go false e ih = let k = next-step p v e in ih (k .vertex) (omega (arith, k .sinks))
+
+  pub end-vertex : (m p : ℕ) → Vertex n p → Vertex n (end lower ring pick m p)
+  unfolding end
+  end-vertex zero p v = v
+  end-vertex (suc m) p v = end-vertex m (go-on p) (go (stop p) refl)
+    where
+      go : (b : Bool) → stop p ≡ b → Vertex n (go-on p)
+      go true e = rw (next-stop p e) v
+      go false e = next-step p v e .vertex
+
+  end-more : (m p : ℕ) → end lower ring pick (suc m) p ≡ go-on (end lower ring pick m p)
+  unfolding end
+  end-more zero p = refl
+  end-more (suc m) p = end-more m (go-on p)
+
+  -- a vertex's rank is at most the number of posts, or it is an end
+  bounded : (p : ℕ) → Vertex n p → stop p ≡ false → rank lower n p ≤ n
+  bounded p v h = rank-le lower (d .order) n p (next-step p v h .post)
+
+  -- where a vertex's walk ends is an end, and that of the vertex after it
+  pub end-is-stop : (p : ℕ) → Vertex n p → stop (end lower ring pick n p) ≡ true
+  end-is-stop p v = go (stop p) refl
+    where
+      go : (b : Bool) → stop p ≡ b → stop (end lower ring pick n p) ≡ true
+      go true e = rw (end-stop n p e) e
+      go false e = end-reached n p v (bounded p v e)
+
+  pub end-next : (p : ℕ) → Vertex n p → end lower ring pick n (go-on p) ≡ end lower ring pick n p
+  unfolding end
+  end-next p v = end-more n p ∙ next-stop (end lower ring pick n p) (end-is-stop p v)
+
+  -- a walk falls at every step, and its last entry is its end; it has at most one entry more than the rank
+  pub record Falls (p : ℕ) (l : List ℕ) : Type 0 where
+    pub falling : fallsFrom lower p l ≡ true
+    pub ending : stop (lastOr p l) ≡ true
+    pub bound : length l ≤ rank lower n p
+
+  abbrev after : ℕ → ℕ → List ℕ
+  after m p = cond (stop p) [] (walk lower ring pick m (go-on p))
