@@ -1,3 +1,4 @@
 -- The laws, over the definitions of specs/.
 pub mod Starred
 pub mod Grid
+pub mod RingPlaces
