@@ -2,3 +2,6 @@
 pub mod Starred
 pub mod Grid
 pub mod RingPlaces
+pub mod RingEdges
+pub mod Offsets
+pub mod RingOnce

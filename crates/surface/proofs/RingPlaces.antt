@@ -46,7 +46,7 @@ among-kept (s ∷ l) (inl h) = Memᴰ·append-left (kept l) (one-kept (s .taken)
 among-kept (s ∷ l) (inr h) = Memᴰ·append-right (keep (s .taken) (s .vertex)) (among-kept l h)
 
 -- what a taken diagonal place says
-diagonal : (a b d : Bool) → (not a && (not b && d)) ≡ true → (a ≡ false) × (b ≡ false) × (d ≡ true)
+pub diagonal : (a b d : Bool) → (not a && (not b && d)) ≡ true → (a ≡ false) × (b ≡ false) × (d ≡ true)
 diagonal true b d h = absurd (false≢true h)
 diagonal false true d h = absurd (false≢true h)
 diagonal false false d h = (refl, refl, h)
