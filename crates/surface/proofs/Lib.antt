@@ -5,3 +5,5 @@ pub mod RingPlaces
 pub mod RingEdges
 pub mod Offsets
 pub mod RingOnce
+pub mod Agreement
+pub mod Locality

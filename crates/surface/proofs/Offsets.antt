@@ -1,7 +1,7 @@
 -- Where a vertex stands as seen from a post p: one row above, level or below, and one column before, level or after.
 use Prim.Native.Nat.{ℕ, _+_, _-_, _*_, _≤_, _<_}
-use mathlib.Core.Path.{_≡_, refl, sym, ap, _∙_}
-use mathlib.Core.Bool.{Bool, true, false, and-eq-true-iff}
+use mathlib.Core.Path.{_≡_, refl, sym, ap, ap₂, _∙_}
+use mathlib.Core.Bool.{Bool, true, false, _&&_, and-eq-true-iff, and-comm}
 use native.Mathlib.Omega.{arith}
 use lib.Dec.{leb}
 use borrow.Author.Tests.{le-leb}
@@ -79,14 +79,23 @@ module _ {rows columns p : ℕ} (s : Sides rows columns) where
     pub to-nw : first rows columns p ≡ false → top rows columns p ≡ false → Offset rows columns p 0 0 (p - columns - 1)
     to-nw f t = west 0 (to-n t) (north-first s p t ∙ f)
 
--- a vertex at most one row and one column away touches p by side or corner, or is p
+-- posts at most one row and one column apart are the same or touch by side or corner
 near-true : (a b : ℕ) → a ≤ b + 1 → b ≤ a + 1 → near a b ≡ true
 near-true a b h k = and-eq-true-iff (leb a (b + 1)) (leb b (a + 1)) .1 (le-leb a (b + 1) h, le-leb b (a + 1) k)
 
-pub offset-touches : {rows columns p r k q : ℕ} → Offset rows columns p r k q → r ≤ 2 → k ≤ 2 → touches columns p q ≡ true
+pub touches-true : (columns p q : ℕ) → row columns p ≤ row columns q + 1 → row columns q ≤ row columns p + 1 → column columns p ≤ column columns q + 1 → column columns q ≤ column columns p + 1 → touches columns p q ≡ true
 unfolding touches
+touches-true columns p q h₁ h₂ h₃ h₄ =
+    and-eq-true-iff (near (row columns p) (row columns q)) (near (column columns p) (column columns q)) .1
+    (near-true (row columns p) (row columns q) h₁ h₂, near-true (column columns p) (column columns q) h₃ h₄)
+
+near-sym : (a b : ℕ) → near a b ≡ near b a
+near-sym a b = and-comm (leb a (b + 1)) (leb b (a + 1))
+
+pub touches-sym : (columns p q : ℕ) → touches columns p q ≡ touches columns q p
+unfolding touches
+touches-sym columns p q = ap₂ _&&_ (near-sym (row columns p) (row columns q)) (near-sym (column columns p) (column columns q))
+
+pub offset-touches : {rows columns p r k q : ℕ} → Offset rows columns p r k q → r ≤ 2 → k ≤ 2 → touches columns p q ≡ true
 offset-touches {columns} {p} {q} o hr hk =
-    and-eq-true-iff (near (row columns p) (row columns q)) (near (column columns p) (column columns q)) .1 (
-      near-true (row columns p) (row columns q) (omega (arith, o)) (omega (arith, o)),
-      near-true (column columns p) (column columns q) (omega (arith, o)) (omega (arith, o)),
-    )
+    touches-true columns p q (omega (arith, o)) (omega (arith, o)) (omega (arith, o)) (omega (arith, o))
