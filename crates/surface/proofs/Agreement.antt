@@ -1,13 +1,12 @@
 -- What a lowest member, runs and a mark read of an order: only the pairs that they compare. Over any order, rings and tests.
-use Prim.Native.Nat.{ℕ, suc, _+_}
-use mathlib.Core.Path.{_≡_, refl, sym, ap, ap₂, _∙_}
-use mathlib.Core.Bool.{Bool, true, false, cond, not, _&&_, _||_}
+use Prim.Native.Nat.{ℕ}
+use mathlib.Core.Path.{_≡_, refl, ap₂}
+use mathlib.Core.Bool.{Bool, true, false, cond, _&&_, _||_}
 use mathlib.Core.List.{List, [], _∷_, _++_, List·Memᴰ, List·Memᴰ·head, List·Memᴰ·tail, List·Memᴰ·cases-cons, List·Memᴰ·append-cases}
 use mathlib.Core.Logic.{⊎-elim}
-use lib.ListN.{length}
-use Rattle.surface.specs.Lists.{keep, any, all, takeWhile, lastOr}
+use Rattle.surface.specs.Lists.{any, all, takeWhile, lastOr}
 use Rattle.surface.specs.Edges.{lowest, lowestOr, runs, runsFrom}
-use Rattle.surface.specs.Marks.{markFor, mark}
+use Rattle.surface.specs.Marks.{mark}
 
 -- two tests agree on the members of a list
 abbrev pub Agree : {B : Type 0} → (ℕ → B) → (ℕ → B) → List ℕ → Type 0

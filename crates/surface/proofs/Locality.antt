@@ -1,7 +1,7 @@
 -- Law 7: the mark of a post reads only the posts that touch it by side or corner (document 01, "Marks and counts": "No other height or mark is touched").
 use Prim.Native.Nat.{ℕ, _+_, _-_, _*_, _≤_, _<_}
-use mathlib.Core.Path.{_≡_, refl, sym, ap, ap₂, _∙_}
-use mathlib.Core.Bool.{Bool, true, false, cond, not, _&&_, _||_, true≢false}
+use mathlib.Core.Path.{_≡_, refl, sym, ap, _∙_}
+use mathlib.Core.Bool.{Bool, true, false, not, _&&_, true≢false}
 use mathlib.Core.List.{List, [], _∷_, List·Memᴰ, List·Memᴰ·head, List·Memᴰ·tail}
 use mathlib.Core.Logic.{_≢_}
 use native.Mathlib.Omega.{arith}
@@ -9,15 +9,16 @@ use lib.Dec.{eqb}
 use lib.IntN.{ℤ, pos}
 use lib.ListN.{getD, set}
 use lib.Seq.{getD-set-other}
-use borrow.Author.Tests.{eqb-true, eqb-false, eq-eqb}
-use Rattle.surface.specs.Plot.{row, column, height, virtualPit, below}
+use borrow.Author.Tests.{eqb-false}
+use Rattle.surface.specs.Plot.{height, virtualPit, below}
 use Rattle.surface.specs.Edges.{top, bottom, first, last, Corner, nw, ne, sw, se, corner, throughLowest, ring}
 use Rattle.surface.specs.Marks.{mark, ringOf, markAt, touches}
-use Rattle.surface.proofs.Grid.{Sides, row-south, column-south, row-east, column-east, south-last}
-use Rattle.surface.proofs.RingPlaces.{Place, atN, atNE, atE, atSE, atS, atSW, atW, atNW, atPit, slot, kept, slots, ring-slots, ring-place}
-use Rattle.surface.proofs.RingEdges.{either, Cell, CornerOf, corner-post, cell-ne, cell-se, cell-sw, cell-nw}
+use Rattle.surface.proofs.Grid.{Sides}
+use Rattle.surface.proofs.RingPlaces.{Place, atN, atNE, atE, atSE, atS, atSW, atW, atNW, atPit, ring-place}
+use Rattle.surface.proofs.Bools.{either}
+use Rattle.surface.proofs.Cells.{CornerOf, corner-post, corner-within, cell-ne, cell-se, cell-sw, cell-nw}
 use Rattle.surface.proofs.Offsets.{Offset, here, to-n, to-ne, to-e, to-se, to-s, to-sw, to-w, to-nw, touches-true, touches-sym, offset-touches}
-use Rattle.surface.proofs.Agreement.{AgreeAmong, lowest-agree, mark-agree}
+use Rattle.surface.proofs.Agreement.{lowest-agree, mark-agree}
 
 -- the 3 by 3 block round p: p, the posts that touch it, and the virtual pit
 pub data Block (rows columns p u : ℕ) : Type 0 where
@@ -37,31 +38,6 @@ read-agree : (a b : Bool) {x y : Bool} → (a ≡ false → b ≡ false → x �
 read-agree true b same = refl
 read-agree false true same = refl
 read-agree false false same = same refl refl
-
--- rows down and columns right from a cell's top left corner
-abbrev down : Corner → ℕ
-down nw = 0
-down ne = 0
-down sw = 1
-down se = 1
-
-abbrev right : Corner → ℕ
-right nw = 0
-right ne = 1
-right sw = 0
-right se = 1
-
-step-down : (i : Corner) → down i ≤ 1
-step-down nw = omega arith
-step-down ne = omega arith
-step-down sw = omega arith
-step-down se = omega arith
-
-step-right : (i : Corner) → right i ≤ 1
-step-right nw = omega arith
-step-right ne = omega arith
-step-right sw = omega arith
-step-right se = omega arith
 
 a-corner : (columns a u : ℕ) → List·Memᴰ u (a ∷ (a + 1) ∷ (a + columns) ∷ (a + columns + 1) ∷ []) → (j : Corner) × (u ≡ corner columns a j)
 a-corner columns a u (List·Memᴰ·head e) = (nw, e)
@@ -103,27 +79,11 @@ module _ {rows columns : ℕ} (s : Sides rows columns) where
       cc
 
   -- the corners of a cell of which p is a corner are in p's block
-  corner-row : {a : ℕ} → Cell rows columns a → (i : Corner) → row columns (corner columns a i) ≡ row columns a + down i
-  corner-row c nw = omega arith
-  corner-row {a} c ne = row-east s a (c .notLast) ∙ omega arith
-  corner-row {a} c sw = row-south s a
-  corner-row {a} c se = row-east s (a + columns) (south-last s a ∙ c .notLast) ∙ row-south s a
-
-  corner-column : {a : ℕ} → Cell rows columns a → (i : Corner) → column columns (corner columns a i) ≡ column columns a + right i
-  corner-column c nw = omega arith
-  corner-column {a} c ne = column-east s a (c .notLast)
-  corner-column {a} c sw = column-south s a ∙ omega arith
-  corner-column {a} c se = omega (arith, column-east s (a + columns) (south-last s a ∙ c .notLast), column-south s a)
-
   corner-block : {a p : ℕ} (i : Corner) → CornerOf rows columns a i p → (j : Corner) → Block rows columns p (corner columns a j)
-  corner-block {a} i c j =
-      aPost (corner-post s (c .cell) j)
-      (rw (c .here)
-      (touches-true columns (corner columns a i) (corner columns a j)
-      (omega (arith, corner-row (c .cell) i, corner-row (c .cell) j, step-down i, step-down j))
-      (omega (arith, corner-row (c .cell) i, corner-row (c .cell) j, step-down i, step-down j))
-      (omega (arith, corner-column (c .cell) i, corner-column (c .cell) j, step-right i, step-right j))
-      (omega (arith, corner-column (c .cell) i, corner-column (c .cell) j, step-right i, step-right j))))
+  corner-block i c j =
+      let wi = corner-within s (c .cell) i in
+      let wj = corner-within s (c .cell) j in
+      aPost (corner-post s (c .cell) j) (rw (c .here) (touches-true columns _ _ (omega arith) (omega arith) (omega arith) (omega arith)))
 
   -- the diagonal through a cell's lowest post reads the order among its corners
   pub diagonal-local : (lower lower′ : ℕ → ℕ → Bool) (p : ℕ) → AgreeRound rows columns lower lower′ p → CellsAgree rows columns (throughLowest lower columns) (throughLowest lower′ columns) p

@@ -1,78 +1,17 @@
 -- Law 2: the members of a post's ring are exactly the other ends of its edges, for any choice of diagonals (document 01, "Edges").
 use Prim.Native.Nat.{ℕ, _+_, _-_, _*_, _≤_, _<_}
 use mathlib.Core.Path.{_≡_, refl, sym, ap, _∙_}
-use mathlib.Core.Bool.{Bool, true, false, not, _&&_, _||_, false≢true, and-eq-true-iff}
+use mathlib.Core.Bool.{Bool, true, not, false≢true}
 use mathlib.Core.List.{List·Memᴰ}
-use mathlib.Core.Logic.{_↔_, _⊎_, inl, inr, ⊎-elim}
+use mathlib.Core.Logic.{_≢_, _↔_, _⊎_, inl, inr}
 use native.Mathlib.Omega.{arith}
-use lib.Dec.{T}
 use borrow.Author.Tests.{not-true}
 use Rattle.surface.specs.Plot.{virtualPit}
-use Rattle.surface.specs.Edges.{top, bottom, first, last, isBorder, isCell, Corner, nw, ne, sw, se, corner, joined, Edge, ofCell, toPit, fromPit, ring}
-use Rattle.surface.proofs.Grid.{Sides, top-false, north-south, not-first, south-post, east-post, south-top, south-first, south-last, east-top, east-bottom, east-first, north-bottom, north-first, north-last, west-top, west-bottom, west-last, top-bottom, bottom-top, first-last, last-first}
+use Rattle.surface.specs.Edges.{bottom, last, isBorder, isCell, Corner, nw, ne, sw, se, corner, joined, Edge, ofCell, toPit, fromPit, ring}
+use Rattle.surface.proofs.Grid.{Sides, top-false, not-first, south-top, south-last, east-top, east-bottom, east-first, bottom-top, last-first}
+use Rattle.surface.proofs.Bools.{true-T, T-true, either}
+use Rattle.surface.proofs.Cells.{Cell, CornerOf, cell-of, corner-post, cell-ne, cell-se, cell-sw, cell-nw}
 use Rattle.surface.proofs.RingPlaces.{Place, atN, atNE, atE, atSE, atS, atSW, atW, atNW, atPit, ring-place}
-
-pub true-T : {b : Bool} → b ≡ true → T b
-true-T e = rw e tt
-
-pub T-true : (b : Bool) → T b → b ≡ true
-T-true true t = refl
-T-true false t = absurd t
-
-pub either {ℓ} : {C : Type ℓ} (b : Bool) → (b ≡ true → C) → (b ≡ false → C) → C
-either true f g = f refl
-either false f g = g refl
-
--- a cell of the plot
-pub record Cell (rows columns a : ℕ) : Type 0 where
-  pub inPlot : a < rows * columns
-  pub notLast : last rows columns a ≡ false
-  pub notBottom : bottom rows columns a ≡ false
-
--- p is corner i of the cell a
-pub record CornerOf (rows columns a : ℕ) (i : Corner) (p : ℕ) : Type 0 where
-  pub cell : Cell rows columns a
-  pub here : p ≡ corner columns a i
-
-module _ {rows columns : ℕ} (s : Sides rows columns) where
-  -- the corners of a cell are posts
-  pub corner-post : {a : ℕ} → Cell rows columns a → (i : Corner) → corner columns a i < rows * columns
-  corner-post {a} c nw = c .inPlot
-  corner-post {a} c ne = east-post s a (c .inPlot) (c .notLast)
-  corner-post {a} c sw = south-post s a (c .inPlot) (c .notBottom)
-  corner-post {a} c se = east-post s (a + columns) (south-post s a (c .inPlot) (c .notBottom)) (south-last s a ∙ c .notLast)
-
-  -- the cells round a post p, where they are there
-  module _ (p : ℕ) (h : p < rows * columns) where
-    pub cell-ne : top rows columns p ≡ false → last rows columns p ≡ false → CornerOf rows columns (p - columns) sw p
-    cell-ne t l =
-        record {
-          cell = record { inPlot = omega arith; notLast = north-last s p t ∙ l; notBottom = north-bottom s p h t };
-          here = sym (north-south s p t);
-        }
-
-    pub cell-se : last rows columns p ≡ false → bottom rows columns p ≡ false → CornerOf rows columns p nw p
-    cell-se l b = record { cell = record { inPlot = h; notLast = l; notBottom = b }; here = refl }
-
-    pub cell-sw : bottom rows columns p ≡ false → first rows columns p ≡ false → CornerOf rows columns (p - 1) ne p
-    cell-sw b f =
-        record {
-          cell = record { inPlot = omega arith; notLast = west-last s p f; notBottom = west-bottom s p f ∙ b };
-          here = omega (arith, not-first s p f);
-        }
-
-    pub cell-nw : first rows columns p ≡ false → top rows columns p ≡ false → CornerOf rows columns (p - columns - 1) se p
-    cell-nw f t =
-        let k : first rows columns (p - columns) ≡ false = north-first s p t ∙ f in
-        record {
-          cell =
-              record {
-                inPlot = omega arith;
-                notLast = west-last s (p - columns) k;
-                notBottom = west-bottom s (p - columns) k ∙ north-bottom s p h t;
-              };
-          here = omega (arith, not-first s (p - columns) k, north-south s p t);
-        }
 
 module _ {rows columns : ℕ} (s : Sides rows columns) (falls : ℕ → Bool) where
   -- an edge of a cell
@@ -129,11 +68,6 @@ module _ {rows columns : ℕ} (s : Sides rows columns) (falls : ℕ → Bool) wh
   corner-place {a} c se sw d = atW (east-first s (a + columns) (south-last s a ∙ c .notLast)) (omega arith)
   corner-place {a} c se se d = absurd (false≢true d)
 
-cell-of : (rows columns a : ℕ) → a < rows * columns → T (isCell rows columns a) → Cell rows columns a
-cell-of rows columns a h t =
-    let k = and-eq-true-iff (not (last rows columns a)) (not (bottom rows columns a)) .0 (T-true (isCell rows columns a) t) in
-    record { inPlot = h; notLast = not-true (last rows columns a) (k .0); notBottom = not-true (bottom rows columns a) (k .1) }
-
 joined-sym : (fall : Bool) (i j : Corner) → joined fall i j ≡ joined fall j i
 joined-sym fall nw nw = refl
 joined-sym fall nw ne = refl
@@ -160,10 +94,13 @@ edge-sym (fromPit h b e) = toPit h b e
 
 module _ {rows columns : ℕ} (s : Sides rows columns) (falls : ℕ → Bool) where
   -- every end of an edge is a post or the virtual pit
-  pub edge-end : {p q : ℕ} → Edge rows columns falls p q → (q < rows * columns) ⊎ (q ≡ virtualPit)
+  edge-end : {p q : ℕ} → Edge rows columns falls p q → (q < rows * columns) ⊎ (q ≡ virtualPit)
   edge-end (ofCell a h c i j d ep eq) = inl (rw eq (corner-post s (cell-of rows columns a h c) j))
   edge-end (toPit h b e) = inr e
   edge-end (fromPit h b e) = inl h
+
+  pub edge-ends : {p q : ℕ} → Edge rows columns falls p q → ((p < rows * columns) ⊎ (p ≡ virtualPit)) × ((q < rows * columns) ⊎ (q ≡ virtualPit))
+  edge-ends e = (edge-end (edge-sym e), edge-end e)
 
   module _ (fits : rows * columns ≤ virtualPit) where
     edge-place : {p q : ℕ} → p < rows * columns → Edge rows columns falls p q → Place rows columns falls p q
@@ -176,6 +113,21 @@ module _ {rows columns : ℕ} (s : Sides rows columns) (falls : ℕ → Bool) wh
     pub ring-edge : (p q : ℕ) → p < rows * columns → List·Memᴰ q (ring rows columns falls p) ↔ Edge rows columns falls p q
     ring-edge p q h =
         (λ m. place-edge s falls p q h (ring-place rows columns falls p q .0 m), λ e. ring-place rows columns falls p q .1 (edge-place h e))
+
+    -- a post is not in its own ring
+    place-other : {p q : ℕ} → p < rows * columns → Place rows columns falls p q → q ≢ p
+    place-other {p} h (atN t e) = omega (arith, top-false s p .0 t)
+    place-other {p} h (atNE t l d e) = omega (arith, top-false s p .0 t)
+    place-other {p} h (atE l e) = omega arith
+    place-other {p} h (atSE l b d e) = omega arith
+    place-other {p} h (atS b e) = omega arith
+    place-other {p} h (atSW b f d e) = omega arith
+    place-other {p} h (atW f e) = omega (arith, not-first s p f)
+    place-other {p} h (atNW f t d e) = omega (arith, top-false s p .0 t)
+    place-other {p} h (atPit b e) = omega arith
+
+    pub ring-other : (p q : ℕ) → p < rows * columns → List·Memᴰ q (ring rows columns falls p) → q ≢ p
+    ring-other p q h m = place-other h (ring-place rows columns falls p q .0 m)
 
     -- two posts are in each other's rings or in neither
     pub ring-sym : (p q : ℕ) → p < rows * columns → q < rows * columns → List·Memᴰ q (ring rows columns falls p) → List·Memᴰ p (ring rows columns falls q)

@@ -1,6 +1,6 @@
 -- Law 2, continued: each member of a ring stands in it once, the virtual pit too (document 01, "Edges").
 -- Seen from p each vertex has a key, and the keys of the ring's members rise from 0 to 7 along its places.
-use Prim.Native.Nat.{ℕ, zero, suc, _+_, _-_, _*_, _≤_, _<_}
+use Prim.Native.Nat.{ℕ, _+_, _-_, _*_, _≤_, _<_}
 use mathlib.Core.Path.{_≡_, refl, sym, ap, _∙_}
 use mathlib.Core.Bool.{Bool, true, false, cond, not, _&&_, _||_, false≢true}
 use mathlib.Core.List.{List, [], _∷_, _++_}
@@ -14,6 +14,7 @@ use Rattle.surface.proofs.Grid.{Sides}
 use Rattle.surface.proofs.RingPlaces.{Slot, kept, slots, ring-slots, diagonal}
 use Rattle.surface.proofs.Offsets.{Offset, to-n, to-ne, to-e, to-se, to-s, to-sw, to-w, to-nw}
 
+infixr 5 _then_
 -- how often q is in a list
 abbrev pub times : ℕ → List ℕ → ℕ
 times q = count (λ x. eqb x q)
@@ -24,9 +25,9 @@ times-cons q x l = refl
 
 module _ (key : ℕ → ℕ) where
   -- the vertices taken have the keys i, i + 1, ..
-  abbrev Keyed : ℕ → List Slot → Type 0
-  Keyed i [] = Unit {0}
-  Keyed i (s ∷ l) = (s .taken ≡ true → key (s .vertex) ≡ i) × Keyed (i + 1) l
+  data Keyed : ℕ → List Slot → Type 0 where
+    end : {i : ℕ} → Keyed i []
+    _then_ : {i : ℕ} {s : Slot} {l : List Slot} → (s .taken ≡ true → key (s .vertex) ≡ i) → Keyed (i + 1) l → Keyed i (s ∷ l)
 
   record Once (i q : ℕ) (l : List ℕ) : Type 0 where
     once : times q l ≤ 1
@@ -47,10 +48,10 @@ module _ (key : ℕ → ℕ) where
   once-more i q true x l k o = once-cons i q x l (k refl) o (eqb x q) refl
   once-more i q false x l k o = record { once = o .once; later = λ h. o .later (omega arith) }
 
-  keyed-once : (i q : ℕ) (l : List Slot) → Keyed i l → Once i q (kept l)
+  keyed-once : (q : ℕ) {i : ℕ} {l : List Slot} → Keyed i l → Once i q (kept l)
   unfolding count
-  keyed-once i q [] k = record { once = omega arith; later = λ h. refl }
-  keyed-once i q (s ∷ l) k = once-more i q (s .taken) (s .vertex) (kept l) (k .0) (keyed-once (i + 1) q l (k .1))
+  keyed-once q end = record { once = omega arith; later = λ h. refl }
+  keyed-once q (_then_ {i} {s} {l} k ks) = once-more i q (s .taken) (s .vertex) (kept l) k (keyed-once q ks)
 
 -- the key of a vertex r - 1 rows below p and k - 1 columns after it, and that of the virtual pit
 abbrev around : ℕ → ℕ → ℕ
@@ -104,29 +105,17 @@ module _ {rows columns : ℕ} (s : Sides rows columns) (falls : ℕ → Bool) (f
       let t = top rows columns p in
       let l = last rows columns p in
       let b = bottom rows columns p in
-      let f = first rows columns p in (
-        λ _. key-side t (p - columns) (λ e. key-pit ∙ ap (λ x. pitKey x l b) e) (λ e. key-post (to-n s h e)),
-        (
-          λ c. let k = diagonal t l _ c in key-post (to-ne s h (k .0) (k .1)),
-          (
-            λ c. key-side l (p + 1) (λ e. key-pit ∙ pitE t l b c e) (λ e. key-post (to-e s h e)),
-            (
-              λ c. let k = diagonal l b _ c in key-post (to-se s h (k .0) (k .1)),
-              (
-                λ c. key-side b (p + columns) (λ e. key-pit ∙ pitS t l b c e) (λ e. key-post (to-s s h e)),
-                (
-                  λ c. let k = diagonal b f _ c in key-post (to-sw s h (k .0) (k .1)),
-                  (
-                    λ c. key-side f (p - 1) (λ e. key-pit ∙ pitW t l b f c e) (λ e. key-post (to-w s h e)),
-                    (λ c. let k = diagonal f t _ c in key-post (to-nw s h (k .0) (k .1)), tt),
-                  ),
-                ),
-              ),
-            ),
-          ),
-        ),
-      )
+      let f = first rows columns p in
+      (λ _. key-side t (p - columns) (λ e. key-pit ∙ ap (λ x. pitKey x l b) e) (λ e. key-post (to-n s h e)))
+      then (λ c. let k = diagonal t l _ c in key-post (to-ne s h (k .0) (k .1)))
+      then (λ c. key-side l (p + 1) (λ e. key-pit ∙ pitE t l b c e) (λ e. key-post (to-e s h e)))
+      then (λ c. let k = diagonal l b _ c in key-post (to-se s h (k .0) (k .1)))
+      then (λ c. key-side b (p + columns) (λ e. key-pit ∙ pitS t l b c e) (λ e. key-post (to-s s h e)))
+      then (λ c. let k = diagonal b f _ c in key-post (to-sw s h (k .0) (k .1)))
+      then (λ c. key-side f (p - 1) (λ e. key-pit ∙ pitW t l b f c e) (λ e. key-post (to-w s h e)))
+      then (λ c. let k = diagonal f t _ c in key-post (to-nw s h (k .0) (k .1)))
+      then end
 
   -- each member of a ring stands in it once
   pub ring-once : (q : ℕ) → count (λ x. eqb x q) (ring rows columns falls p) ≤ 1
-  ring-once q = rw (ring-slots rows columns falls p) (keyed-once key 0 q (slots rows columns falls p) slots-keyed .once)
+  ring-once q = rw (ring-slots rows columns falls p) (keyed-once key q slots-keyed .once)

@@ -1,12 +1,12 @@
 -- The ring of a post taken apart: its eight places, and which vertex is a member by which of them (document 01, "Edges").
-use Prim.Native.Nat.{ℕ, _+_, _-_, _*_}
-use mathlib.Core.Path.{_≡_, refl, sym, ap, _∙_}
+use Prim.Native.Nat.{ℕ, _+_, _-_}
+use mathlib.Core.Path.{_≡_, refl}
 use mathlib.Core.Bool.{Bool, true, false, cond, not, _&&_, _||_, false≢true, or-true}
 use mathlib.Core.List.{List, [], _∷_, _++_, append-assoc, append-nil, List·Memᴰ, List·Memᴰ·head, List·Memᴰ·append-cases, List·Memᴰ·eq-of-singleton, List·Memᴰ·not-nil, Memᴰ·append-left, Memᴰ·append-right}
 use mathlib.Core.Logic.{_↔_, _⊎_, inl, inr, ⊎-elim}
 use borrow.Author.Tests.{not-true}
 use Rattle.surface.specs.Lists.{keep}
-use Rattle.surface.specs.Plot.{row, column, virtualPit}
+use Rattle.surface.specs.Plot.{virtualPit}
 use Rattle.surface.specs.Edges.{top, bottom, first, last, isBorder, ring}
 
 -- a place of a ring: the vertex that stands there, if it is taken
