@@ -100,6 +100,10 @@ module _ {rows columns : ℕ} (s : Sides rows columns) where
       mark-agree lower lower′ (ring rows columns falls) (ring rows columns falls′) p (ring-local falls falls′ p h cells)
       (λ q m. same p q self (ring-block falls p q h m)) (λ q m. same q p (ring-block falls p q h m) self)
 
+  -- and with the diagonals through the lowest posts of each order
+  pub mark-lowest-local : (lower lower′ : ℕ → ℕ → Bool) (p : ℕ) → p < rows * columns → AgreeRound rows columns lower lower′ p → mark lower (ring rows columns (throughLowest lower columns)) p ≡ mark lower′ (ring rows columns (throughLowest lower′ columns)) p
+  mark-lowest-local lower lower′ p h same = mark-local lower lower′ _ _ p h same (diagonal-local lower lower′ p same)
+
 -- document 01's order reads the heights of the two posts; the virtual pit has none
 below-agree : (hs hs′ : List ℤ) (u v : ℕ) → (eqb u virtualPit ≡ false → height hs u ≡ height hs′ u) → (eqb v virtualPit ≡ false → height hs v ≡ height hs′ v) → below hs u v ≡ below hs′ u v
 unfolding below
@@ -126,7 +130,7 @@ module _ {rows columns : ℕ} (s : Sides rows columns) (z : ℕ) (hs hs′ : Lis
 
   pub markAt-local : markAt rows columns hs p ≡ markAt rows columns hs′ p
   unfolding markAt ringOf
-  markAt-local = mark-local s (below hs) (below hs′) _ _ p h below-local (diagonal-local s (below hs) (below hs′) p below-local)
+  markAt-local = mark-lowest-local s (below hs) (below hs′) p h below-local
 
 -- a new height at z
 pub markAt-set : {rows columns : ℕ} (s : Sides rows columns) (z : ℕ) (hs : List ℤ) (new : ℤ) (p : ℕ) → p < rows * columns → touches columns z p ≡ false → markAt rows columns (set hs z new) p ≡ markAt rows columns hs p
