@@ -13,7 +13,9 @@ pub mod Runs
 pub mod Signs
 pub mod Census
 pub mod Balance
+pub mod RunMembers
 pub mod Walks
+pub mod Pieces
 pub mod Agreement
 pub mod Locality
 pub mod Starred

@@ -11,7 +11,9 @@ use lib.ListN.{length, getD}
 use borrow.Author.Tests.{eqb-true, eq-eqb, ne-eqb, not-true, not-false}
 use Rattle.surface.specs.Lists.{filter, any, keep, lastOr, one}
 use Rattle.surface.specs.Plot.{virtualPit}
-use Rattle.surface.specs.Lines.{isEnd, next, walk, end, fallsFrom}
+use Rattle.surface.specs.Lines.{isEnd, next, walk, end, line, fallsFrom}
+use Rattle.surface.specs.Edges.{lowerRuns}
+use Rattle.surface.proofs.RunMembers.{runs-run}
 use Rattle.surface.proofs.Order.{StrictTotal, rank, rank-falls, rank-le}
 use Rattle.surface.proofs.Bools.{or-left, or-right}
 
@@ -141,11 +143,91 @@ module _ {n : ℕ} {lower : ℕ → ℕ → Bool} {ring : ℕ → List ℕ} {pic
   unfolding end
   end-next p v = end-more n p ∙ next-stop (end lower ring pick n p) (end-is-stop p v)
 
-  -- a walk falls at every step, and its last entry is its end; it has at most one entry more than the rank
-  pub record Falls (p : ℕ) (l : List ℕ) : Type 0 where
+  -- a walk is its first vertex and what comes after it
+  abbrev rest : ℕ → ℕ → List ℕ
+  rest zero p = []
+  rest (suc m) p = cond (stop p) [] (walk lower ring pick m (go-on p))
+
+  walk-rest : (m p : ℕ) → walk lower ring pick m p ≡ p ∷ rest m p
+  unfolding walk
+  walk-rest zero p = refl
+  walk-rest (suc m) p = refl
+
+  -- it falls at every step, its last entry is where it ends, and it has no more entries than the rank lets it have
+  record Falls (m p : ℕ) : Type 0 where
+    falling : fallsFrom lower p (rest m p) ≡ true
+    ending : lastOr p (rest m p) ≡ end lower ring pick m p
+    bound : length (rest m p) ≤ rank lower n p
+
+  rest-falls : (m p : ℕ) → Vertex n p → Falls m p
+  unfolding fallsFrom lastOr end
+  rest-falls zero p v = record { falling = refl; ending = refl; bound = omega arith }
+  rest-falls (suc m) p v = go (stop p) refl (rest-falls m (go-on p))
+    where
+      go : (b : Bool) → stop p ≡ b → (Vertex n (go-on p) → Falls m (go-on p)) → Falls (suc m) p
+      go true e ih = record { falling = rw e; ending = rw e (sym (end-stop (suc m) p e)); bound = rw e (omega arith) }
+      go false e ih =
+          let k = next-step p v e in
+          let f = ih (k .vertex) in
+          record {
+            falling = rw (e, walk-rest m (go-on p), k .falls) (f .falling);
+            ending = rw (e, walk-rest m (go-on p)) (f .ending);
+            bound = rw (e, walk-rest m (go-on p)) (omega (arith, f .bound, k .sinks));
+          }
+
+  -- more steps than the rank add nothing
+  walk-stop : (m p : ℕ) → stop p ≡ true → walk lower ring pick m p ≡ p ∷ []
+  unfolding walk
+  walk-stop zero p h = refl
+  walk-stop (suc m) p h = rw h
+
+  walk-more : (m p : ℕ) → Vertex n p → rank lower n p ≤ m → walk lower ring pick (suc m) p ≡ walk lower ring pick m p
+  unfolding walk
+  walk-more zero p v h = go (stop p) refl
+    where
+      go : (b : Bool) → stop p ≡ b → p ∷ cond b [] (go-on p ∷ []) ≡ p ∷ []
+      go true e = refl
+      go false e = absurd (omega (arith, next-step p v e .sinks))
+  walk-more (suc m) p v h = go (stop p) refl (walk-more m (go-on p))
+    where
+      go : (b : Bool) → stop p ≡ b
+          → (Vertex n (go-on p) → rank lower n (go-on p) ≤ m → walk lower ring pick (suc m) (go-on p) ≡ walk lower ring pick m (go-on p))
+          → p ∷ cond b [] (walk lower ring pick (suc m) (go-on p)) ≡ p ∷ cond b [] (walk lower ring pick m (go-on p))
+      go true e ih = refl
+      go false e ih = let k = next-step p v e in ap (λ (l : List ℕ). p ∷ l) (ih (k .vertex) (omega (arith, k .sinks)))
+
+  -- a whole walk, a step at a time
+  pub walk-next : (p : ℕ) → Vertex n p → walk lower ring pick n p ≡ p ∷ cond (stop p) [] (walk lower ring pick n (go-on p))
+  unfolding walk
+  walk-next p v = go (stop p) refl
+    where
+      go : (b : Bool) → stop p ≡ b → walk lower ring pick n p ≡ p ∷ cond b [] (walk lower ring pick n (go-on p))
+      go true e = walk-stop n p e
+      go false e = sym (walk-more n p v (bounded p v e)) ∙ rw e
+
+  -- a line from p over a vertex q below it: it falls at every step, ends at an end, and has at most one entry more than there are posts
+  pub record LineFalls (p : ℕ) (l : List ℕ) : Type 0 where
     pub falling : fallsFrom lower p l ≡ true
     pub ending : stop (lastOr p l) ≡ true
-    pub bound : length l ≤ rank lower n p
+    pub bound : length (p ∷ l) ≤ n + 1
 
-  abbrev after : ℕ → ℕ → List ℕ
-  after m p = cond (stop p) [] (walk lower ring pick m (go-on p))
+  pub walk-line : (p q : ℕ) → p < n → Vertex n q → lower q p ≡ true → LineFalls p (walk lower ring pick n q)
+  unfolding fallsFrom lastOr
+  walk-line p q h v k =
+      let f = rest-falls n q v in
+      rw (walk-rest n q)
+      (record {
+        falling = rw k (f .falling);
+        ending = rw (f .ending) (end-is-stop q v);
+        bound = omega (arith, f .bound, rank-falls lower (d .order) n q p v k, rank-le lower (d .order) n p h);
+      })
+
+  -- the line of a post and one of its runs
+  pub line-falls : (p run : ℕ) → p < n → run < length (lowerRuns lower ring p)
+      → (l : List ℕ) × (line lower ring pick n p run ≡ p ∷ l) × LineFalls p l
+  unfolding line
+  line-falls p run h k =
+      let r = runs-run (λ q. lower q p) (ring p) run k in
+      let q = pick p (getD (lowerRuns lower ring p) run []) in
+      let m : List·Memᴰ q (ring p) × (lower q p ≡ true) = r .member q (d .picksMember p (r .some) _ (r .there)) in
+      (walk lower ring pick n q, refl, walk-line p q h (d .ringVertex p q h (m .0)) (m .1))
