@@ -18,4 +18,6 @@ pub mod Walks
 pub mod Pieces
 pub mod Agreement
 pub mod Locality
+pub mod Verdicts
+pub mod Series
 pub mod Starred
