@@ -14,10 +14,12 @@ pub mod Signs
 pub mod Census
 pub mod Balance
 pub mod RunMembers
+pub mod Lowest
 pub mod Walks
 pub mod Pieces
 pub mod Agreement
 pub mod Locality
 pub mod Verdicts
 pub mod Series
+pub mod Network
 pub mod Starred

@@ -2,12 +2,15 @@
 use Prim.Native.Nat.{ℕ, zero, suc, _+_, _-_, _*_, _≤_, _<_}
 use native.Mathlib.Omega.{arith}
 use mathlib.Core.Path.{_≡_, refl, sym, _∙_, ap, ap₂}
-use mathlib.Core.Bool.{Bool, true, false, cond, not, _&&_, _||_}
-use mathlib.Core.List.{List, [], _∷_, _++_, map}
+use mathlib.Core.Bool.{Bool, true, false, cond, not, _&&_, _||_, true≢false}
+use mathlib.Core.Logic.{_↔_, ⊎-elim}
+use mathlib.Core.List.{List, [], _∷_, _++_, map, List·Memᴰ, List·Memᴰ·head, List·Memᴰ·tail, List·Memᴰ·cases-cons, List·Memᴰ·not-nil, List·Memᴰ·append-cases, List·Memᴰ·eq-of-singleton, Memᴰ·append-left, Memᴰ·append-right}
 use native.Mathlib.Decide.{ℕ-discrete}
 use lib.ListN.{length, getD, length-append, List·getD-append}
 use lib.Seq.{getD-append-seam}
-use Rattle.surface.specs.Lists.{listOf, one, count, total}
+use lib.Dec.{eqb}
+use borrow.Author.Tests.{eqb-true, eqb-false}
+use Rattle.surface.specs.Lists.{listOf, any, one, count, total}
 use Rattle.surface.proofs.Sum.{sum}
 
 pub length-listOf : {A : Type 0} (f : ℕ → A) (n : ℕ) → length (listOf f n) ≡ n
@@ -53,3 +56,36 @@ pub total-listOf : {A : Type 0} (g : A → ℕ) (f : ℕ → A) (n : ℕ) → to
 unfolding listOf total sum
 total-listOf g f zero = refl
 total-listOf g f (suc n) = omega (arith, total-append g (listOf f n) (f n ∷ []), total-listOf g f n)
+
+-- the members of a list made by `listOf`
+pub member-listOf : (f : ℕ → ℕ) (n i w : ℕ) → i < n → f i ≡ w → List·Memᴰ w (listOf f n)
+unfolding listOf
+member-listOf f zero i w h e = absurd (omega arith)
+member-listOf f (suc n) i w h e = go (ℕ-discrete i n) (λ k. member-listOf f n i w k e)
+  where
+    go : Dec (i ≡ n) → (i < n → List·Memᴰ w (listOf f n)) → List·Memᴰ w (listOf f n ++ f n ∷ [])
+    go (yes k) ih = Memᴰ·append-right (listOf f n) (List·Memᴰ·head (sym e ∙ ap f k))
+    go (no k) ih = Memᴰ·append-left (f n ∷ []) (ih (omega arith))
+
+pub listOf-member : (f : ℕ → ℕ) (n w : ℕ) → List·Memᴰ w (listOf f n) → (i : ℕ) × (i < n) × (f i ≡ w)
+unfolding listOf
+listOf-member f zero w m = absurd (List·Memᴰ·not-nil m)
+listOf-member f (suc n) w m =
+    ⊎-elim (λ (k : List·Memᴰ w (listOf f n)). let r = listOf-member f n w k in (r .0, omega (arith, r .1), r .2))
+    (λ (k : List·Memᴰ w (f n ∷ [])). (n, omega arith, sym (List·Memᴰ·eq-of-singleton k)))
+    (List·Memᴰ·append-cases (listOf f n) m)
+
+-- whether a number stands in a list, as a test
+pub any-member : (l : List ℕ) (w : ℕ) → any (λ x. eqb x w) l ≡ true ↔ List·Memᴰ w l
+unfolding any
+any-member [] w = (λ e. absurd (true≢false (sym e)), λ m. absurd (List·Memᴰ·not-nil m))
+any-member (x ∷ l) w = (to (eqb x w) refl (any-member l w .0), from (eqb x w) refl (any-member l w .1))
+  where
+    to : (b : Bool) → eqb x w ≡ b → (any (λ y. eqb y w) l ≡ true → List·Memᴰ w l) → b || any (λ y. eqb y w) l ≡ true → List·Memᴰ w (x ∷ l)
+    to true e ih h = List·Memᴰ·head (sym (eqb-true x w e))
+    to false e ih h = List·Memᴰ·tail (ih h)
+
+    from : (b : Bool) → eqb x w ≡ b → (List·Memᴰ w l → any (λ y. eqb y w) l ≡ true) → List·Memᴰ w (x ∷ l) → b || any (λ y. eqb y w) l ≡ true
+    from true e ih m = refl
+    from false e ih m =
+        ⊎-elim (λ (k : w ≡ x). absurd (eqb-false x w e (sym k))) (λ (k : List·Memᴰ w l). ih k) (List·Memᴰ·cases-cons m)

@@ -134,7 +134,7 @@ module _ (rows columns : ℕ) (falls low : ℕ → Bool) (p : ℕ) where
   starts-ring = starts-members low _ (places rows columns falls p) ∙ omega arith
 
 -- what is not below a post is above it, for every member of a list that is not the post itself
-any-above : (lower : ℕ → ℕ → Bool) → StrictTotal lower → (p : ℕ) (l : List ℕ) → ((q : ℕ) → List·Memᴰ q l → q ≡ p → ⊥)
+pub any-above : (lower : ℕ → ℕ → Bool) → StrictTotal lower → (p : ℕ) (l : List ℕ) → ((q : ℕ) → List·Memᴰ q l → q ≡ p → ⊥)
     → any (λ q. lower p q) l ≡ not (all (λ q. lower q p) l)
 unfolding any all
 any-above lower o p [] h = refl

@@ -4,8 +4,8 @@ use Prim.Native.Nat.{ℕ, zero, suc, _+_, _-_, _*_, _≤_, _<_}
 use native.Mathlib.Omega.{arith}
 use mathlib.Core.Path.{_≡_, refl, sym, _∙_, ap, ap₂, subst}
 use mathlib.Core.Logic.{_⊎_, ⊎-elim, inl, inr}
-use mathlib.Core.Bool.{Bool, true, false, cond, not, _&&_, _||_, true≢false}
-use mathlib.Core.List.{List, [], _∷_, _++_, List·Memᴰ, List·Memᴰ·head, List·Memᴰ·tail, List·Memᴰ·cases-cons, List·Memᴰ·not-nil}
+use mathlib.Core.Bool.{Bool, true, false, cond, not, _&&_, _||_, true≢false, or-true}
+use mathlib.Core.List.{List, [], _∷_, _++_, List·Memᴰ, List·Memᴰ·head, List·Memᴰ·tail, List·Memᴰ·cases-cons, List·Memᴰ·not-nil, Memᴰ·append-right}
 use lib.Dec.{eqb}
 use lib.ListN.{length, getD}
 use borrow.Author.Tests.{eqb-true, eq-eqb, ne-eqb, not-true, not-false}
@@ -15,7 +15,7 @@ use Rattle.surface.specs.Lines.{isEnd, next, walk, end, line, fallsFrom}
 use Rattle.surface.specs.Edges.{lowerRuns}
 use Rattle.surface.proofs.RunMembers.{runs-run}
 use Rattle.surface.proofs.Order.{StrictTotal, rank, rank-falls, rank-le}
-use Rattle.surface.proofs.Bools.{or-left, or-right}
+use Rattle.surface.proofs.Bools.{or-right, either}
 
 -- what passes a test
 pub filter-member : (s : ℕ → Bool) (l : List ℕ) (q : ℕ) → List·Memᴰ q (filter s l) → List·Memᴰ q l × (s q ≡ true)
@@ -29,6 +29,20 @@ filter-member s (x ∷ l) q m = go (s x) refl (filter-member s l q) m
         ⊎-elim (λ (h : q ≡ x). (List·Memᴰ·head h, ap s h ∙ e)) (λ (h : List·Memᴰ q (filter s l)). (List·Memᴰ·tail (ih h .0), ih h .1))
         (List·Memᴰ·cases-cons m)
     go false e ih m = (List·Memᴰ·tail (ih m .0), ih m .1)
+
+pub member-filter : (s : ℕ → Bool) (l : List ℕ) (q : ℕ) → List·Memᴰ q l → s q ≡ true → List·Memᴰ q (filter s l)
+unfolding filter
+member-filter s [] q m h = absurd (List·Memᴰ·not-nil m)
+member-filter s (x ∷ l) q m h =
+    ⊎-elim (λ (e : q ≡ x). rw (sym (ap s e) ∙ h) (List·Memᴰ·head e))
+    (λ (k : List·Memᴰ q l). Memᴰ·append-right (keep (s x) x) (member-filter s l q k h))
+    (List·Memᴰ·cases-cons m)
+
+pub member-any : (s : ℕ → Bool) (l : List ℕ) (q : ℕ) → List·Memᴰ q l → s q ≡ true → any s l ≡ true
+unfolding any
+member-any s [] q m h = absurd (List·Memᴰ·not-nil m)
+member-any s (x ∷ l) q m h =
+    ⊎-elim (λ (e : q ≡ x). rw (sym (ap s e) ∙ h)) (λ (k : List·Memᴰ q l). rw (member-any s l q k h) (or-true (s x))) (List·Memᴰ·cases-cons m)
 
 -- something passes a test
 pub filter-some : (s : ℕ → Bool) (l : List ℕ) → any s l ≡ true → (q : ℕ) × List·Memᴰ q (filter s l)
@@ -113,14 +127,15 @@ module _ {n : ℕ} {lower : ℕ → ℕ → Bool} {ring : ℕ → List ℕ} {pic
       go true e ih = rw (next-stop p e, end-stop m p e) e
       go false e ih = let k = next-step p v e in ih (k .vertex) (omega (arith, k .sinks))
 
-  pub end-vertex : (m p : ℕ) → Vertex n p → Vertex n (end lower ring pick m p)
+  -- what every step keeps, the end has
+  pub end-inside : (inside : ℕ → Type 0) → ((p : ℕ) → inside p → stop p ≡ false → inside (go-on p)) → (m p : ℕ) → inside p → inside (end lower ring pick m p)
   unfolding end
-  end-vertex zero p v = v
-  end-vertex (suc m) p v = end-vertex m (go-on p) (go (stop p) refl)
-    where
-      go : (b : Bool) → stop p ≡ b → Vertex n (go-on p)
-      go true e = rw (next-stop p e) v
-      go false e = next-step p v e .vertex
+  end-inside inside keeps zero p i = i
+  end-inside inside keeps (suc m) p i =
+      end-inside inside keeps m (go-on p) (either (stop p) (λ e. subst inside (sym (next-stop p e)) i) (λ e. keeps p i e))
+
+  pub end-vertex : (m p : ℕ) → Vertex n p → Vertex n (end lower ring pick m p)
+  end-vertex = end-inside (Vertex n) (λ p v e. next-step p v e .vertex)
 
   end-more : (m p : ℕ) → end lower ring pick (suc m) p ≡ go-on (end lower ring pick m p)
   unfolding end
@@ -205,20 +220,27 @@ module _ {n : ℕ} {lower : ℕ → ℕ → Bool} {ring : ℕ → List ℕ} {pic
       go true e = walk-stop n p e
       go false e = sym (walk-more n p v (bounded p v e)) ∙ rw e
 
-  -- a line from p over a vertex q below it: it falls at every step, ends at an end, and has at most one entry more than there are posts
+  -- a line from p: it goes on by a vertex below p, falls at every step, ends where that vertex's walk ends, and has at most one entry more than there are
+  -- posts
   pub record LineFalls (p : ℕ) (l : List ℕ) : Type 0 where
+    pub via : ℕ
+    pub viaVertex : Vertex n via
+    pub viaLower : lower via p ≡ true
     pub falling : fallsFrom lower p l ≡ true
-    pub ending : stop (lastOr p l) ≡ true
+    pub ending : lastOr p l ≡ end lower ring pick n via
     pub bound : length (p ∷ l) ≤ n + 1
 
-  pub walk-line : (p q : ℕ) → p < n → Vertex n q → lower q p ≡ true → LineFalls p (walk lower ring pick n q)
+  walk-line : (p q : ℕ) → p < n → Vertex n q → lower q p ≡ true → LineFalls p (walk lower ring pick n q)
   unfolding fallsFrom lastOr
   walk-line p q h v k =
       let f = rest-falls n q v in
       rw (walk-rest n q)
       (record {
+        via = q;
+        viaVertex = v;
+        viaLower = k;
         falling = rw k (f .falling);
-        ending = rw (f .ending) (end-is-stop q v);
+        ending = f .ending;
         bound = omega (arith, f .bound, rank-falls lower (d .order) n q p v k, rank-le lower (d .order) n p h);
       })
 
