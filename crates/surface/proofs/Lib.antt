@@ -22,4 +22,5 @@ pub mod Locality
 pub mod Verdicts
 pub mod Series
 pub mod Network
+pub mod Demand
 pub mod Starred

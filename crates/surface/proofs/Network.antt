@@ -79,11 +79,11 @@ module _ (rows columns : ℕ) (hs : List ℤ) (plot : Plotted rows columns hs) w
   peak-end p h = rw (ne-eqb p virtualPit (not-pit p (h .0)), h .1)
 
   -- upward a walk never meets the virtual pit
-  up-post : (p q : ℕ) → Vertex (rows * columns) q → below hs p q ≡ true → q < rows * columns
+  pub up-post : (p q : ℕ) → Vertex (rows * columns) q → below hs p q ≡ true → q < rows * columns
   up-post p q (inl h) e = h
   up-post p q (inr h) e = absurd (true≢false (sym e ∙ ap (below hs p) h ∙ not-below-pit hs p))
 
-  up-keeps : (p : ℕ) → p < rows * columns → upEnd p ≡ false
+  pub up-keeps : (p : ℕ) → p < rows * columns → upEnd p ≡ false
       → next (reversed (below hs)) (ringOf rows columns hs) (lowestOf (reversed (below hs))) p < rows * columns
   up-keeps p h e = let k = next-step up p (inl h) e in up-post p _ (k .vertex) (k .falls)
 
