@@ -1,0 +1,3 @@
+-- Laws about one post, which the leaves' proofs cite.
+pub mod Order
+pub mod Diagonal

@@ -1,0 +1,2 @@
+-- What the leaves ask of their arguments.
+pub mod Fits
