@@ -1,2 +1,3 @@
 -- What the leaves ask of their arguments.
 pub mod Fits
+pub mod Places

@@ -1,1 +1,3 @@
 pub mod cell;
+pub mod place;
+pub mod side;
