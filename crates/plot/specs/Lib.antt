@@ -1,3 +1,4 @@
 -- What the leaves ask of their arguments.
 pub mod Fits
-pub mod Places
+pub mod Borders
+pub mod Signs

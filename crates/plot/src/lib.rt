@@ -1,3 +1,4 @@
+pub mod border;
 pub mod cell;
-pub mod place;
 pub mod side;
+pub mod sign;

@@ -2,8 +2,8 @@
 use native.Mathlib.Nat.{div-le-self, mod-le}
 use native.Mathlib.Omega.{arith}
 use borrow.Author.Needs.{needs}
-use Rattle.plot.proofs.place.place_of.Statement.{statement}
-use Rattle.plot.proofs.place.place_of.Tie as tie
+use Rattle.plot.proofs.border.borders_of.Statement.{statement}
+use Rattle.plot.proofs.border.borders_of.Tie as tie
 
 div-row : tie.Need-div-row
 div-row c = search needs
@@ -20,5 +20,5 @@ add-t10 c = omega (arith, mod-le (c .args .p) (c .args .columns))
 returns : tie.Need-returns
 returns c = search needs
 
-pub place-of-spec : {M : Type 1} → statement M
-place-of-spec = tie.close (tie.spec div-row rem-column add-t7 add-t10 returns)
+pub borders-of-spec : {M : Type 1} → statement M
+borders-of-spec = tie.close (tie.spec div-row rem-column add-t7 add-t10 returns)

@@ -1,0 +1,51 @@
+// The eight signs of a post: going round it from north, whether the neighbour is below it; a place with no neighbour has the sign of the place before it.
+use crate::border::Borders;
+use crate::side;
+ghost use mathlib.Core.Path.{_≡_};
+ghost use lib.ListN.{length};
+ghost use Rattle.surface.specs.Plot.{below};
+ghost use Rattle.plot.specs.Signs.{Room, signsOf};
+
+pub struct Signs {
+    pub n: bool,
+    pub ne: bool,
+    pub e: bool,
+    pub se: bool,
+    pub s: bool,
+    pub sw: bool,
+    pub w: bool,
+    pub nw: bool,
+}
+
+// Which corners round a post share an edge with it.
+pub struct Corners {
+    pub ne: bool,
+    pub se: bool,
+    pub sw: bool,
+    pub nw: bool,
+}
+
+// The signs of p, which stands at these borders and is joined to these corners.
+pub fn signs_of(heights: &[i32], columns: usize, p: usize, at: Borders, with: Corners) -> Signs
+    requires { ⌜ Room (length (now heights)) columns p at with ⌝ }
+    ensures { λ r. ⌜ r ≡ signsOf (λ q. below (now (heights .entry)) q p) columns p at with ⌝ }
+{
+    let n = side::back(heights, p, columns, !at.top, true);
+    let ne = side::back(heights, p, columns - 1, with.ne, n);
+    let e = side::ahead(heights, p, 1, !at.last, true);
+    let se = side::ahead(heights, p, columns + 1, with.se, e);
+    let s = side::ahead(heights, p, columns, !at.bottom, true);
+    let sw = side::ahead(heights, p, columns - 1, with.sw, s);
+    let w = side::back(heights, p, 1, !at.first, !at.top | sw);
+    let nw = side::back(heights, p, columns + 1, with.nw, w);
+    Signs {
+        n,
+        ne,
+        e,
+        se,
+        s,
+        sw,
+        w,
+        nw,
+    }
+}
