@@ -75,30 +75,47 @@ joined fall se ne = true
 joined fall se sw = true
 joined fall se se = false
 
+-- a place round a post: whether a neighbour stands there, and which
+pub record Place : Type 0 where
+  pub taken : Bool
+  pub member : ℕ
+
+abbrev pub place : Bool → ℕ → Place
+place taken member = record { taken = taken; member = member }
+
+unfoldable pub members : List Place → List ℕ
+members [] = []
+members (x ∷ l) = keep (x .taken) (x .member) ++ members l
+
 module _ (rows columns : ℕ) (falls : ℕ → Bool) where
   pub data Edge (p q : ℕ) : Type 0 where
     ofCell : (a : ℕ) → a < rows * columns → T (isCell rows columns a) → (i j : Corner) → T (joined (falls a) i j) → p ≡ corner columns a i → q ≡ corner columns a j → Edge p q
     toPit : p < rows * columns → T (isBorder rows columns p) → q ≡ virtualPit → Edge p q
     fromPit : q < rows * columns → T (isBorder rows columns q) → p ≡ virtualPit → Edge p q
 
-  -- The ring of a post: its neighbours clockwise from north.   NW  N  NE
+  -- The eight places round a post, clockwise from north.      NW  N  NE
   -- On a border post the virtual pit stands at N in the         W  p  E
   -- top row, else at E in the last column, else at S in        SW  S  SE
   -- the bottom row, else at W.
-  unfoldable pub ring : ℕ → List ℕ
-  ring p =
+  unfoldable pub places : ℕ → List Place
+  places p =
       let t = top rows columns p in
       let b = bottom rows columns p in
       let f = first rows columns p in
       let l = last rows columns p in
-      cond t virtualPit (p - columns)
-      ∷ keep (not t && (not l && not (falls (p - columns)))) (p - columns + 1)
-      ++ keep (not (l && t)) (cond l virtualPit (p + 1))
-      ++ keep (not l && (not b && falls p)) (p + columns + 1)
-      ++ keep (not (b && (t || l))) (cond b virtualPit (p + columns))
-      ++ keep (not b && (not f && not (falls (p - 1)))) (p + columns - 1)
-      ++ keep (not (f && (t || (l || b)))) (cond f virtualPit (p - 1))
-      ++ keep (not f && (not t && falls (p - columns - 1))) (p - columns - 1)
+      place true (cond t virtualPit (p - columns))
+      ∷ place (not t && (not l && not (falls (p - columns)))) (p - columns + 1)
+      ∷ place (not (l && t)) (cond l virtualPit (p + 1))
+      ∷ place (not l && (not b && falls p)) (p + columns + 1)
+      ∷ place (not (b && (t || l))) (cond b virtualPit (p + columns))
+      ∷ place (not b && (not f && not (falls (p - 1)))) (p + columns - 1)
+      ∷ place (not (f && (t || (l || b)))) (cond f virtualPit (p - 1))
+      ∷ place (not f && (not t && falls (p - columns - 1))) (p - columns - 1)
+      ∷ []
+
+  -- the ring of a post: its neighbours at those places
+  unfoldable pub ring : ℕ → List ℕ
+  ring p = members (places p)
 
 -- A run is a longest stretch of the ring, taken as a circle, whose members all pass the test. Here are those that start in l, in order: a run starts
 -- where a member passes and the one before it, of which `before` tells, does not. `circle` is what follows l on the circle.
