@@ -5,3 +5,4 @@ pub mod Order
 pub mod Runs
 pub mod Signs
 pub mod Starred
+pub mod Grid
