@@ -10,7 +10,8 @@ use lib.Signed.{ltZ}
 use borrow.Author.Tests.{eq-eqb, ne-eqb}
 use Rattle.surface.specs.Plot.{height, virtualPit, below}
 use Rattle.surface.specs.Edges.{lowest, lowestOr, throughLowest}
-use Rattle.plot.proofs.Order.{ltZ-asym, ltZ-le, below-high}
+use Rattle.surface.proofs.Order.{ltZ-trans}
+use Rattle.plot.proofs.Order.{ltZ-le, below-high}
 
 -- four heights, in the order of their posts' numbers
 pub record Four : Type 0 where
@@ -28,9 +29,6 @@ fallsBy h =
 split : {A : Type 0} (b : Bool) → (b ≡ true → A) → (b ≡ false → A) → A
 split true f g = f refl
 split false f g = g refl
-
-ltZ-trans : (a b c : ℤ) → ltZ a b ≡ true → ltZ b c ≡ true → ltZ a c ≡ true
-ltZ-trans a b c h k = ltZ-le a b c h (ltZ-asym b c k)
 
 -- the same as `lowest` finds it, one post after the other
 abbrev byTurns : Four → Bool

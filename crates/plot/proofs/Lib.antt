@@ -1,3 +1,4 @@
 -- Laws about one post, which the leaves' proofs cite.
 pub mod Order
 pub mod Diagonal
+pub mod Round

@@ -1,10 +1,16 @@
 // The eight signs of a post: going round it from north, whether the neighbour is below it; a place with no neighbour has the sign of the place before it.
+use crate::border;
 use crate::border::Borders;
 use crate::side;
 ghost use mathlib.Core.Path.{_≡_};
 ghost use lib.ListN.{length};
+ghost use Prim.Native.Nat.{_*_, _<_};
 ghost use Rattle.surface.specs.Plot.{below};
-ghost use Rattle.plot.specs.Signs.{Room, signsOf};
+ghost use Rattle.surface.specs.Edges.{throughLowest};
+ghost use Rattle.surface.proofs.Signs.{signs};
+ghost use Rattle.plot.specs.Fits.{Fits};
+ghost use Rattle.plot.specs.Borders.{bordersOf};
+ghost use Rattle.plot.specs.Signs.{Room, asSigns, cornersOf, signsOf};
 
 pub struct Signs {
     pub n: bool,
@@ -23,6 +29,23 @@ pub struct Corners {
     pub se: bool,
     pub sw: bool,
     pub nw: bool,
+}
+
+// The corners that share an edge with p, which stands at these borders.
+pub fn corners_of(heights: &[i32], rows: usize, columns: usize, p: usize, at: Borders) -> Corners
+    requires { ⌜ Fits rows columns (now heights) × (p < rows * columns) × (at ≡ bordersOf rows columns p) ⌝ }
+    ensures { λ r. ⌜ r ≡ cornersOf rows columns (throughLowest (below (now (heights .entry))) columns) p ⌝ }
+{
+    let ne = !at.top & !at.last;
+    let se = !at.last & !at.bottom;
+    let sw = !at.bottom & !at.first;
+    let nw = !at.first & !at.top;
+    Corners {
+        ne: ne & !side::falls_back(heights, columns, p, columns, ne),
+        se: side::falls_back(heights, columns, p, 0, se),
+        sw: sw & !side::falls_back(heights, columns, p, 1, sw),
+        nw: side::falls_back(heights, columns, p, columns + 1, nw),
+    }
 }
 
 // The signs of p, which stands at these borders and is joined to these corners.
@@ -48,4 +71,14 @@ pub fn signs_of(heights: &[i32], columns: usize, p: usize, at: Borders, with: Co
         w,
         nw,
     }
+}
+
+// The signs of any post.
+pub fn signs_at(heights: &[i32], rows: usize, columns: usize, p: usize) -> Signs
+    requires { ⌜ Fits rows columns (now heights) × (p < rows * columns) ⌝ }
+    ensures { λ r. ⌜ asSigns r ≡ signs rows columns (throughLowest (below (now (heights .entry))) columns) (λ q. below (now (heights .entry)) q p) p ⌝ }
+{
+    let at = border::borders_of(rows, columns, p);
+    let with = corners_of(heights, rows, columns, p, at);
+    signs_of(heights, columns, p, at, with)
 }
