@@ -260,10 +260,14 @@ module _ {rows columns : ℕ} {hs : List ℤ} (fits : Fits rows columns hs) (p :
     pub cell-nw : not (first rows columns p) && not (top rows columns p) ≡ true → (columns + 1 ≤ p) × (p - (columns + 1) + columns + 1 < length hs)
     cell-nw k = let h = both (first rows columns p) (top rows columns p) k in omega (arith, northWest (h .0) (h .1))
 
-  -- document 01's mark of p, by its borders and corners
-  pub mark-is : markAt rows columns hs p ≡ markOfSigns (asSigns (signsOf (λ q. below hs q p) columns p (bordersOf rows columns p) (cornersOf rows columns (throughLowest (below hs) columns) p)))
+  -- document 01's mark of p, by its signs, and by its borders and corners
+  pub mark-by-signs : markAt rows columns hs p ≡ markOfSigns (signs rows columns (throughLowest (below hs) columns) (λ q. below hs q p) p)
   unfolding markAt ringOf ring
-  mark-is =
+  mark-by-signs =
       let falls = throughLowest (below hs) columns in
       mark-signs (below hs) (below-strict hs) rows columns falls p (apart-members p (places rows columns falls p) (apart falls))
-      ∙ ap markOfSigns (sym (signs-are falls (λ q. below hs q p) (pit-below hs p no-pit)))
+
+  pub mark-by-corners : markAt rows columns hs p ≡ markOfSigns (asSigns (signsOf (λ q. below hs q p) columns p (bordersOf rows columns p) (cornersOf rows columns (throughLowest (below hs) columns) p)))
+  mark-by-corners =
+      mark-by-signs
+      ∙ ap markOfSigns (sym (signs-are (throughLowest (below hs) columns) (λ q. below hs q p) (pit-below hs p no-pit)))

@@ -1,4 +1,5 @@
 pub mod border;
 pub mod cell;
+pub mod mark;
 pub mod side;
 pub mod sign;
