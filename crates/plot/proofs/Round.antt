@@ -13,7 +13,7 @@ use Rattle.surface.specs.Lists.{keep}
 use Rattle.surface.specs.Plot.{virtualPit, below}
 use Rattle.surface.specs.Edges.{top, bottom, first, last, Place, members, places, ring, throughLowest}
 use Rattle.surface.specs.Marks.{mark, ringOf, markAt}
-use Rattle.surface.proofs.Bools.{and-left, and-right}
+use Rattle.surface.proofs.Bools.{and-left, or-left, or-right}
 use Rattle.surface.proofs.Grid.{Sides, top-false, bottom-false, not-first, top-bottom, last-first, last-false, first-false, post-is, column-lt, south-last, north-first, south-post, east-post}
 use Rattle.surface.proofs.Order.{below-strict, pit-below}
 use Rattle.surface.proofs.Signs as surface
@@ -22,7 +22,7 @@ use Rattle.plot.proofs.Order.{same-where}
 use Rattle.plot.specs.declared.sign.Corners.{Corners}
 use Rattle.plot.specs.Fits.{Fits}
 use Rattle.plot.specs.Borders.{bordersOf}
-use Rattle.plot.specs.Signs.{asSigns, cornersOf, signsOf, Room}
+use Rattle.plot.specs.Signs.{asSigns, cornersOf, signsOf, Room, inside, cornersBy, Inside}
 
 -- the vertices at the eight places
 record Round : Type 0 where
@@ -271,3 +271,32 @@ module _ {rows columns : ℕ} {hs : List ℤ} (fits : Fits rows columns hs) (p :
   mark-by-corners =
       mark-by-signs
       ∙ ap markOfSigns (sym (signs-are (throughLowest (below hs) columns) (λ q. below hs q p) (pit-below hs p no-pit)))
+
+-- a post on no border
+module _ {rows columns : ℕ} {hs : List ℤ} {p : ℕ} {nw ne sw se : Bool} (i : Inside rows columns hs p nw ne sw se) where
+  off-top : top rows columns p ≡ false
+  off-top = or-left _ _ (i .border)
+
+  off-last : last rows columns p ≡ false
+  off-last = or-left _ _ (or-right (top rows columns p) _ (i .border))
+
+  off-bottom : bottom rows columns p ≡ false
+  off-bottom = or-left _ _ (or-right (last rows columns p) _ (or-right (top rows columns p) _ (i .border)))
+
+  off-first : first rows columns p ≡ false
+  off-first = or-right (bottom rows columns p) _ (or-right (last rows columns p) _ (or-right (top rows columns p) _ (i .border)))
+
+  pub inside-bounds : (columns + 1 ≤ p) × (p + columns + 1 < length hs)
+  inside-bounds = (
+    northWest (i .fits) p (i .post) off-first off-top,
+    omega (arith, i .fits .size, southEast (i .fits) p (i .post) off-last off-bottom),
+  )
+
+  borders-are : bordersOf rows columns p ≡ inside
+  borders-are = rw (off-top, off-last, off-bottom, off-first)
+
+  corners-are : cornersOf rows columns (throughLowest (below hs) columns) p ≡ cornersBy nw ne sw se
+  corners-are = rw (off-top, off-last, off-bottom, off-first, i .nwFalls, i .neFalls, i .swFalls, i .seFalls)
+
+  pub mark-by-falls : markAt rows columns hs p ≡ markOfSigns (asSigns (signsOf (λ q. below hs q p) columns p inside (cornersBy nw ne sw se)))
+  mark-by-falls = mark-by-corners (i .fits) p (i .post) ∙ rw (borders-are, corners-are)

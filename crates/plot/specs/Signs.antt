@@ -1,9 +1,13 @@
 -- The signs of a post by its borders and by the corners that share an edge with it.
-use Prim.Native.Nat.{ℕ, _+_, _-_, _<_, _≤_}
+use Prim.Native.Nat.{ℕ, _+_, _-_, _*_, _<_, _≤_}
 use mathlib.Core.Path.{_≡_}
-use mathlib.Core.Bool.{Bool, true, cond, not, _&&_, _||_}
-use Rattle.surface.specs.Edges.{top, bottom, first, last}
+use mathlib.Core.Bool.{Bool, true, false, cond, not, _&&_, _||_}
+use mathlib.Core.List.{List}
+use lib.IntN.{ℤ}
+use Rattle.surface.specs.Plot.{below}
+use Rattle.surface.specs.Edges.{top, bottom, first, last, isBorder, throughLowest}
 use Rattle.surface.proofs.Signs as surface
+use Rattle.plot.specs.Fits.{Fits}
 use Rattle.plot.specs.declared.border.Borders.{Borders}
 use Rattle.plot.specs.declared.sign.Corners.{Corners}
 use Rattle.plot.specs.declared.sign.Signs.{Signs}
@@ -54,3 +58,20 @@ pub record Room (n columns p : ℕ) (at : Borders) (with : Corners) : Type 0 whe
   pub southWest : with .sw ≡ true → p + columns < n
   pub west : not (at .first) ≡ true → 1 ≤ p
   pub northWest : with .nw ≡ true → columns + 1 ≤ p
+
+-- of a post on no border, joined across the diagonals round it that rise, or along those that fall
+abbrev pub inside : Borders
+inside = record { top = false; bottom = false; first = false; last = false }
+
+abbrev pub cornersBy : Bool → Bool → Bool → Bool → Corners
+cornersBy nw ne sw se = record { ne = not ne; se = se; sw = not sw; nw = nw }
+
+-- p is on no border, and these four tell whether the diagonals round it fall
+pub record Inside (rows columns : ℕ) (hs : List ℤ) (p : ℕ) (nw ne sw se : Bool) : Type 0 where
+  pub fits : Fits rows columns hs
+  pub post : p < rows * columns
+  pub border : isBorder rows columns p ≡ false
+  pub nwFalls : nw ≡ throughLowest (below hs) columns (p - columns - 1)
+  pub neFalls : ne ≡ throughLowest (below hs) columns (p - columns)
+  pub swFalls : sw ≡ throughLowest (below hs) columns (p - 1)
+  pub seFalls : se ≡ throughLowest (below hs) columns p

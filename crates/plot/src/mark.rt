@@ -13,7 +13,7 @@ ghost use Rattle.surface.specs.Marks.{markAt};
 ghost use Rattle.surface.proofs.Runs.{markBy};
 ghost use Rattle.surface.proofs.Signs.{rise, markOfSigns};
 ghost use Rattle.plot.specs.Fits.{Fits};
-ghost use Rattle.plot.specs.Signs.{asSigns, signsOf};
+ghost use Rattle.plot.specs.Signs.{asSigns, Inside};
 
 // 1 where a lower run starts at the second of two places, else 0.
 pub fn rise(a: bool, b: bool) -> u8
@@ -57,4 +57,21 @@ pub fn mark_at(heights: &[i32], rows: usize, columns: usize, p: usize) -> u8
     ensures { λ r. ⌜ r ≡ markAt rows columns (now (heights .entry)) p ⌝ }
 {
     mark_of(sign::signs_at(heights, rows, columns, p))
+}
+
+// The mark of a post on no border, where it is known which diagonals round it fall.
+pub fn mark_inside(
+    heights: &[i32],
+    rows: usize,
+    columns: usize,
+    p: usize,
+    nw: bool,
+    ne: bool,
+    sw: bool,
+    se: bool,
+) -> u8
+    requires { ⌜ Inside rows columns (now heights) p nw ne sw se ⌝ }
+    ensures { λ r. ⌜ r ≡ markAt rows columns (now (heights .entry)) p ⌝ }
+{
+    mark_of(sign::signs_inside(heights, columns, p, nw, ne, sw, se))
 }

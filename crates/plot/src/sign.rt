@@ -4,13 +4,13 @@ use crate::border::Borders;
 use crate::side;
 ghost use mathlib.Core.Path.{_≡_};
 ghost use lib.ListN.{length};
-ghost use Prim.Native.Nat.{_*_, _<_};
+ghost use Prim.Native.Nat.{_+_, _*_, _≤_, _<_};
 ghost use Rattle.surface.specs.Plot.{below};
 ghost use Rattle.surface.specs.Edges.{throughLowest};
 ghost use Rattle.surface.proofs.Signs.{signs};
 ghost use Rattle.plot.specs.Fits.{Fits};
 ghost use Rattle.plot.specs.Borders.{bordersOf};
-ghost use Rattle.plot.specs.Signs.{Room, asSigns, cornersOf, signsOf};
+ghost use Rattle.plot.specs.Signs.{Room, asSigns, cornersOf, cornersBy, inside, signsOf};
 
 pub struct Signs {
     pub n: bool,
@@ -81,4 +81,37 @@ pub fn signs_at(heights: &[i32], rows: usize, columns: usize, p: usize) -> Signs
     let at = border::borders_of(rows, columns, p);
     let with = corners_of(heights, rows, columns, p, at);
     signs_of(heights, columns, p, at, with)
+}
+
+// The signs of a post on no border, round which these diagonals fall. Every neighbour is compared, joined or not, so that there is no branch.
+pub fn signs_inside(
+    heights: &[i32],
+    columns: usize,
+    p: usize,
+    nw: bool,
+    ne: bool,
+    sw: bool,
+    se: bool,
+) -> Signs
+    requires { ⌜ (2 ≤ columns) × (columns + 1 ≤ p) × (p + columns + 1 < length (now heights)) × (length (now heights) ≤ 14400) ⌝ }
+    ensures { λ r. ⌜ r ≡ signsOf (λ q. below (now (heights .entry)) q p) columns p inside (cornersBy nw ne sw se) ⌝ }
+{
+    let n = side::lower_before(heights, p, p - columns);
+    let e = side::lower_after(heights, p, p + 1);
+    let s = side::lower_after(heights, p, p + columns);
+    let w = side::lower_before(heights, p, p - 1);
+    let low_ne = side::lower_before(heights, p, p - (columns - 1));
+    let low_se = side::lower_after(heights, p, p + (columns + 1));
+    let low_sw = side::lower_after(heights, p, p + (columns - 1));
+    let low_nw = side::lower_before(heights, p, p - (columns + 1));
+    Signs {
+        n,
+        ne: side::pick(!ne, low_ne, n),
+        e,
+        se: side::pick(se, low_se, e),
+        s,
+        sw: side::pick(!sw, low_sw, s),
+        w,
+        nw: side::pick(nw, low_nw, w),
+    }
 }
