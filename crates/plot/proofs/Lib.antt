@@ -2,3 +2,4 @@
 pub mod Order
 pub mod Diagonal
 pub mod Round
+pub mod Extreme

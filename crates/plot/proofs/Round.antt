@@ -86,7 +86,7 @@ module _ (low : ℕ → Bool) (r : Round) (d : Flags) where
   by-borders h false false false false tb lf = refl
 
 -- a corner that is joined stands off both borders
-off : (a b c : Bool) → not a && (not b && c) ≡ true → (a ≡ false) × (b ≡ false)
+pub off : (a b c : Bool) → not a && (not b && c) ≡ true → (a ≡ false) × (b ≡ false)
 off true b c h = absurd (true≢false (sym h))
 off false true c h = absurd (true≢false (sym h))
 off false false c h = (refl, refl)
@@ -133,7 +133,7 @@ pub few : {rows columns : ℕ} {hs : List ℤ} → Fits rows columns hs → rows
 few fits = mul-le-mul (fits .rowsHigh) (fits .columnsHigh)
 
 module _ {rows columns : ℕ} {hs : List ℤ} (fits : Fits rows columns hs) (p : ℕ) (post : p < rows * columns) where
-  sides : Sides rows columns
+  pub sides : Sides rows columns
   sides = record { tall = omega arith; wide = omega arith }
 
   pub no-pit : p ≡ virtualPit → ⊥
@@ -141,20 +141,20 @@ module _ {rows columns : ℕ} {hs : List ℤ} (fits : Fits rows columns hs) (p :
   no-pit = omega (arith, few fits)
 
   -- each neighbour that is there is a post
-  north : top rows columns p ≡ false → columns ≤ p
+  pub north : top rows columns p ≡ false → columns ≤ p
   north t = top-false sides p .0 t
 
-  south : bottom rows columns p ≡ false → p + columns < rows * columns
+  pub south : bottom rows columns p ≡ false → p + columns < rows * columns
   south b = bottom-false sides p post .0 b
 
   pit-or : (b : Bool) (x : ℕ) → (b ≡ false → x ≡ p → ⊥) → cond b virtualPit x ≡ p → ⊥
   pit-or true x h e = no-pit (sym e)
   pit-or false x h e = h refl e
 
-  southEast : last rows columns p ≡ false → bottom rows columns p ≡ false → p + columns + 1 < rows * columns
+  pub southEast : last rows columns p ≡ false → bottom rows columns p ≡ false → p + columns + 1 < rows * columns
   southEast l b = east-post sides (p + columns) (south b) (south-last sides p ∙ l)
 
-  northWest : first rows columns p ≡ false → top rows columns p ≡ false → columns + 1 ≤ p
+  pub northWest : first rows columns p ≡ false → top rows columns p ≡ false → columns + 1 ≤ p
   northWest f t = omega (arith, north t, not-first sides (p - columns) (north-first sides p t ∙ f))
 
   pub signs-are : (falls low : ℕ → Bool) → low virtualPit ≡ true

@@ -2,3 +2,4 @@
 pub mod Fits
 pub mod Borders
 pub mod Signs
+pub mod Scan
