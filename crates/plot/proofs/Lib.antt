@@ -3,3 +3,4 @@ pub mod Order
 pub mod Diagonal
 pub mod Round
 pub mod Extreme
+pub mod Steps

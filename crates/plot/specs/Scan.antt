@@ -1,6 +1,7 @@
 -- The lowest of a post and its neighbours, found by a scan of the places round it, in an order: the height order, or it reversed for the highest.
-use Prim.Native.Nat.{ℕ, _+_, _-_}
-use mathlib.Core.Bool.{Bool, cond, not}
+use Prim.Native.Nat.{ℕ, _+_, _-_, _<_, _≤_}
+use mathlib.Core.Path.{_≡_}
+use mathlib.Core.Bool.{Bool, true, false, cond, not}
 use mathlib.Core.List.{List, [], _∷_}
 use lib.IntN.{ℤ}
 use Rattle.surface.specs.Plot.{below, reversed}
@@ -36,3 +37,22 @@ turn columns p at with =
     ∷ place (with .se) (p + (columns + 1))
     ∷ place (with .nw) (p - (columns + 1))
     ∷ []
+
+-- what a step to a place d numbers before p, or after it, gives: the value, and where its number lies
+pub record Back (lower : ℕ → ℕ → Bool) (x p d : ℕ) (there : Bool) (r : ℕ) : Type 0 where
+  pub value : r ≡ step lower x (place there (p - d))
+  pub low : p - d ≤ r
+  pub high : r ≤ x
+  pub kept : there ≡ false → r ≡ x
+
+pub record Ahead (lower : ℕ → ℕ → Bool) (n x p d : ℕ) (there : Bool) (r : ℕ) : Type 0 where
+  pub value : r ≡ step lower x (place there (p + d))
+  pub low : x ≤ r
+  pub high : r ≤ p + d
+  pub post : r < n
+  pub kept : there ≡ false → r ≡ x
+
+-- W and NE, or E and SW, are both there only in a plot of three columns or more, in which they are different posts
+pub record Wide (columns : ℕ) (at : Borders) (with : Corners) : Type 0 where
+  pub ne : with .ne ≡ true → at .first ≡ false → 3 ≤ columns
+  pub sw : with .sw ≡ true → at .last ≡ false → 3 ≤ columns
