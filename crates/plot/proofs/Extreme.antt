@@ -13,12 +13,13 @@ use Rattle.surface.specs.Plot.{virtualPit, below, reversed}
 use Rattle.surface.specs.Edges.{lowest, lowestOr, Place, place, members, places, ring, top, bottom, first, last, isBorder, throughLowest}
 use Rattle.surface.specs.Marks.{ringOf}
 use Rattle.surface.specs.Lines.{isEnd, next, lowestOf, nextDown, nextUp}
+use Rattle.surface.proofs.Grid.{first-false, last-false}
 use Rattle.surface.proofs.Order.{StrictTotal, reversed-strict, below-strict, pit-below}
 use Rattle.plot.specs.Fits.{Fits}
 use Rattle.plot.specs.Borders.{bordersOf}
 use Rattle.plot.specs.Signs.{cornersOf}
-use Rattle.plot.proofs.Round.{off, north, no-pit}
-use Rattle.plot.specs.Scan.{toward, lowerOf, step, scan, turn}
+use Rattle.plot.proofs.Round.{sides, off, north, no-pit}
+use Rattle.plot.specs.Scan.{toward, lowerOf, step, scan, turn, Wide}
 
 split : {A : Type 0} (b : Bool) → (b ≡ true → A) → (b ≡ false → A) → A
 split true f g = f refl
@@ -173,6 +174,16 @@ module _ {rows columns : ℕ} {hs : List ℤ} (fits : Fits rows columns hs) (p :
 
   abbrev l : Bool
   l = last rows columns p
+
+  three : first rows columns p ≡ false → last rows columns p ≡ false → 3 ≤ columns
+  three h k = omega (arith, first-false (sides fits p post) p .0 h, last-false (sides fits p post) p .0 k)
+
+  pub wide : (falls : ℕ → Bool) → Wide columns (bordersOf rows columns p) (cornersOf rows columns falls p)
+  wide falls =
+      record {
+        ne = λ k h. three h (off t l (not (falls (p - columns))) k .1);
+        sw = λ k h. three (off b f (not (falls (p - 1))) k .1) h;
+      }
 
   module _ (lower : ℕ → ℕ → Bool) (o : StrictTotal lower) (falls : ℕ → Bool) where
     turned : (isBorder rows columns p ≡ true → (x : ℕ) → lower virtualPit x ≡ false)

@@ -1,13 +1,14 @@
 -- One step of a scan, by one comparison of heights.
 use Prim.Native.Nat.{ℕ, _+_, _-_, _<_, _≤_}
-use mathlib.Core.Path.{_≡_, refl, sym}
+use mathlib.Core.Path.{_≡_, refl, ap, _∙_}
 use mathlib.Core.Bool.{Bool, true, false, cond, not, _&&_, true≢false}
-use mathlib.Core.List.{List}
+use mathlib.Core.List.{List, [], _∷_}
 use native.Mathlib.Omega.{arith}
 use lib.IntN.{ℤ}
 use lib.Signed.{ltZ}
 use Rattle.surface.specs.Plot.{height, virtualPit}
-use Rattle.plot.specs.Scan.{toward, Back, Ahead}
+use Rattle.surface.specs.Edges.{Place}
+use Rattle.plot.specs.Scan.{toward, step, scan, Back, Ahead}
 use Rattle.plot.proofs.Order.{below-high, below-low}
 
 -- a post that is not there is taken for p itself
@@ -69,3 +70,21 @@ module _ (hs : List ℤ) (up : Bool) (x p d : ℕ) where
         kept = λ e. absurd (true≢false e);
       }
   ahead-step n false k i high h = record { value = refl; low = omega arith; high = high; post = i; kept = λ _. refl }
+
+-- a scan, one step after the other
+pub scan-end : (lower : ℕ → ℕ → Bool) (x : ℕ) → x ≡ scan lower x []
+unfolding scan
+scan-end lower x = refl
+
+pub scan-step : (lower : ℕ → ℕ → Bool) (x r z : ℕ) (y : Place) (l : List Place) → r ≡ step lower x y → z ≡ scan lower r l → z ≡ scan lower x (y ∷ l)
+unfolding scan
+scan-step lower x r z y l h k = k ∙ ap (λ (w : ℕ). scan lower w l) h
+
+-- NE is numbered before all that may have been found before it, and SW after
+pub wide-back : (f : Bool) (x p columns : ℕ) → (not f ≡ false → x ≡ p) → (f ≡ false → 3 ≤ columns) → 2 ≤ columns → columns ≤ p → p - 1 ≤ x → p - (columns - 1) < x
+wide-back true x p columns h k c n low = omega (arith, h refl)
+wide-back false x p columns h k c n low = omega (arith, k refl)
+
+pub wide-ahead : (l : Bool) (x y p columns : ℕ) → (not l ≡ false → x ≡ y) → (l ≡ false → 3 ≤ columns) → 2 ≤ columns → y ≤ p → x ≤ p + 1 → x < p + (columns - 1)
+wide-ahead true x y p columns h k c n high = omega (arith, h refl)
+wide-ahead false x y p columns h k c n high = omega (arith, k refl)
