@@ -7,6 +7,7 @@ use mathlib.Core.List.{List, [], _∷_, _++_}
 use native.Mathlib.Omega.{arith}
 use lib.Dec.{eqb}
 use lib.IntN.{ℤ}
+use lib.ListN.{length}
 use borrow.Author.Tests.{eqb-true, eqb-false, eq-eqb, ne-eqb}
 use Rattle.surface.specs.Lists.{keep, any, filter}
 use Rattle.surface.specs.Plot.{virtualPit, below, reversed}
@@ -15,10 +16,12 @@ use Rattle.surface.specs.Marks.{ringOf}
 use Rattle.surface.specs.Lines.{isEnd, next, lowestOf, nextDown, nextUp}
 use Rattle.surface.proofs.Grid.{first-false, last-false}
 use Rattle.surface.proofs.Order.{StrictTotal, reversed-strict, below-strict, pit-below}
+use Rattle.plot.specs.declared.border.Borders.{Borders}
+use Rattle.plot.specs.declared.sign.Corners.{Corners}
 use Rattle.plot.specs.Fits.{Fits}
 use Rattle.plot.specs.Borders.{bordersOf}
-use Rattle.plot.specs.Signs.{cornersOf}
-use Rattle.plot.proofs.Round.{sides, off, north, no-pit}
+use Rattle.plot.specs.Signs.{cornersOf, cornersBy, inside, Room, Inside}
+use Rattle.plot.proofs.Round.{sides, off, north, no-pit, room, borders-are, corners-are}
 use Rattle.plot.specs.Scan.{toward, lowerOf, step, scan, turn, Wide}
 
 split : {A : Type 0} (b : Bool) → (b ≡ true → A) → (b ≡ false → A) → A
@@ -244,3 +247,20 @@ module _ {rows columns : ℕ} {hs : List ℤ} (fits : Fits rows columns hs) (p :
   down-pit h =
       next-scan (below hs) (below-strict hs) p (places rows columns (throughLowest (below hs) columns) p) (no-pit fits p post)
       ∙ border-pit (below hs) (below-strict hs) p (pit-below hs p (no-pit fits p post)) nothing-below _ _ _ _ _ _ _ _ t l b f h
+
+-- a post on no border
+module _ {rows columns : ℕ} {hs : List ℤ} {p : ℕ} {nw ne sw se : Bool} (i : Inside rows columns hs p nw ne sw se) where
+  pub room-inside : Room (length hs) columns p inside (cornersBy nw ne sw se) × Wide columns inside (cornersBy nw ne sw se)
+  room-inside =
+      let falls = throughLowest (below hs) columns in
+      rw (← borders-are i, ← corners-are i) (room (i .fits) p (i .post) falls, wide (i .fits) p (i .post) falls)
+
+  pub next-is : (up : Bool) → cond up (nextUp rows columns hs p) (nextDown rows columns hs p) ≡ scan (toward hs up) p (turn columns p inside (cornersBy nw ne sw se))
+  next-is up =
+      go up
+      ∙ ap (λ (at : Borders). scan (toward hs up) p (turn columns p at (cornersOf rows columns (throughLowest (below hs) columns) p))) (borders-are i)
+      ∙ ap (λ (with : Corners). scan (toward hs up) p (turn columns p inside with)) (corners-are i)
+    where
+      go : (up : Bool) → cond up (nextUp rows columns hs p) (nextDown rows columns hs p) ≡ scan (toward hs up) p (turn columns p (bordersOf rows columns p) (cornersOf rows columns (throughLowest (below hs) columns) p))
+      go true = up-is (i .fits) p (i .post)
+      go false = down-is (i .fits) p (i .post) (i .border)

@@ -292,10 +292,10 @@ module _ {rows columns : ℕ} {hs : List ℤ} {p : ℕ} {nw ne sw se : Bool} (i 
     omega (arith, i .fits .size, southEast (i .fits) p (i .post) off-last off-bottom),
   )
 
-  borders-are : bordersOf rows columns p ≡ inside
+  pub borders-are : bordersOf rows columns p ≡ inside
   borders-are = rw (off-top, off-last, off-bottom, off-first)
 
-  corners-are : cornersOf rows columns (throughLowest (below hs) columns) p ≡ cornersBy nw ne sw se
+  pub corners-are : cornersOf rows columns (throughLowest (below hs) columns) p ≡ cornersBy nw ne sw se
   corners-are = rw (off-top, off-last, off-bottom, off-first, i .nwFalls, i .neFalls, i .swFalls, i .seFalls)
 
   pub mark-by-falls : markAt rows columns hs p ≡ markOfSigns (asSigns (signsOf (λ q. below hs q p) columns p inside (cornersBy nw ne sw se)))

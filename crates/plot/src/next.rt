@@ -88,3 +88,33 @@ pub fn next_down_at(heights: &[i32], rows: usize, columns: usize, p: usize) -> u
     let with = sign::corners_of(heights, rows, columns, p, at);
     lowest_round(heights, false, columns, p, at, with)
 }
+
+// Next down, or next up, from a post on no border, where it is known which diagonals round it fall.
+pub fn next_inside(
+    heights: &[i32],
+    rows: usize,
+    columns: usize,
+    p: usize,
+    nw: bool,
+    ne: bool,
+    sw: bool,
+    se: bool,
+    up: bool,
+) -> usize
+    requires { ⌜ Inside rows columns (now heights) p nw ne sw se ⌝ }
+    ensures { λ r. ⌜ r ≡ cond up (nextUp rows columns (now (heights .entry)) p) (nextDown rows columns (now (heights .entry)) p) ⌝ }
+{
+    let at = Borders {
+        top: false,
+        bottom: false,
+        first: false,
+        last: false,
+    };
+    let with = Corners {
+        ne: !ne,
+        se,
+        sw: !sw,
+        nw,
+    };
+    lowest_round(heights, up, columns, p, at, with)
+}
