@@ -1,0 +1,266 @@
+-- Next down and next up as a scan of the places round a post, in any order: a step takes a place's member where it is lower than what was found so
+-- far. Over any strict total order; next up is next down in the reversed order.
+use Prim.Native.Nat.{ℕ, _+_, _-_, _*_, _<_, _≤_}
+use mathlib.Core.Path.{_≡_, refl, sym, ap, _∙_}
+use mathlib.Core.Bool.{Bool, true, false, cond, not, _&&_, _||_, true≢false, or-true}
+use mathlib.Core.List.{List, [], _∷_, _++_}
+use native.Mathlib.Omega.{arith}
+use lib.Dec.{eqb}
+use lib.IntN.{ℤ}
+use lib.ListN.{length}
+use borrow.Author.Tests.{eqb-true, eqb-false, eq-eqb, ne-eqb}
+use Rattle.surface.specs.Lists.{keep, any, filter}
+use Rattle.surface.specs.Plot.{virtualPit, below, reversed}
+use Rattle.surface.specs.Edges.{lowest, lowestOr, Place, place, members, places, ring, top, bottom, first, last, isBorder, throughLowest}
+use Rattle.surface.specs.Marks.{ringOf}
+use Rattle.surface.specs.Lines.{isEnd, next, lowestOf, nextDown, nextUp}
+use Rattle.surface.proofs.Grid.{first-false, last-false}
+use Rattle.surface.proofs.Order.{StrictTotal, reversed-strict, below-strict, pit-below}
+use Rattle.plot.specs.declared.border.Borders.{Borders}
+use Rattle.plot.specs.declared.sign.Corners.{Corners}
+use Rattle.plot.specs.Fits.{Fits}
+use Rattle.plot.specs.Borders.{bordersOf}
+use Rattle.plot.specs.Signs.{cornersOf, cornersBy, inside, Room, Inside}
+use Rattle.plot.proofs.Round.{sides, off, north, no-pit, room, borders-are, corners-are}
+use Rattle.plot.specs.Scan.{toward, lowerOf, step, scan, turn, Wide}
+
+split : {A : Type 0} (b : Bool) → (b ≡ true → A) → (b ≡ false → A) → A
+split true f g = f refl
+split false f g = g refl
+
+flip : (t : Bool) (a b : ℕ) → cond (not t) b a ≡ cond t a b
+flip true a b = refl
+flip false a b = refl
+
+module _ (lower : ℕ → ℕ → Bool) where
+  pub scan-lowest : (x : ℕ) (l : List Place) → lowestOr lower x (members l) ≡ scan lower x l
+  unfolding scan members lowestOr
+  scan-lowest x [] = refl
+  scan-lowest x (y ∷ l) = go (y .taken) (y .member) (scan-lowest (step lower x y) l)
+    where
+      go : (b : Bool) (q : ℕ) → lowestOr lower (cond b (lowerOf lower x q) x) (members l) ≡ scan lower (cond b (lowerOf lower x q) x) l
+          → lowestOr lower x (keep b q ++ members l) ≡ scan lower (cond b (lowerOf lower x q) x) l
+      go true q h = h
+      go false q h = h
+
+  module _ (o : StrictTotal lower) where
+    not-lower : (x a b : ℕ) → lower a x ≡ false → lower b x ≡ true → lower a b ≡ false
+    not-lower x a b h k = split (lower a b) (λ e. absurd (true≢false (sym (o .trans a b x e k) ∙ h))) (λ e. e)
+
+    same : (a b : ℕ) → lowerOf lower a b ≡ lowerOf lower b a
+    same a b = split (eqb a b) (λ e. rw (eqb-true a b e)) (λ e. rw (o .other a b (eqb-false a b e)) (flip (lower a b) a b))
+
+    swap : (x a b : ℕ) → lowerOf lower (lowerOf lower x a) b ≡ lowerOf lower (lowerOf lower x b) a
+    swap x a b =
+        split (lower a x)
+        (λ ax.
+        split (lower b x)
+        (λ bx. rw (ax, bx) (same a b))
+        (λ bx. rw (ax, bx, ax, not-lower x b a bx ax)))
+        (λ ax. split (lower b x) (λ bx. rw (ax, bx, not-lower x a b ax bx)) (λ bx. rw (ax, bx, ax)))
+
+    swap-steps : (x : ℕ) (y z : Place) → step lower (step lower x y) z ≡ step lower (step lower x z) y
+    swap-steps x y z = go (y .taken) (z .taken)
+      where
+        go : (b c : Bool) → let a = cond b (lowerOf lower x (y .member)) x in let d = cond c (lowerOf lower x (z .member)) x in cond c (lowerOf lower a (z .member)) a ≡ cond b (lowerOf lower d (y .member)) d
+        go true true = swap x (y .member) (z .member)
+        go true false = refl
+        go false true = refl
+        go false false = refl
+
+    -- a place may be scanned before all others
+    pub to-front : (x : ℕ) (l : List Place) (y : Place) (m : List Place) → scan lower x (l ++ y ∷ m) ≡ scan lower (step lower x y) (l ++ m)
+    unfolding scan
+    to-front x [] y m = refl
+    to-front x (z ∷ l) y m = to-front (step lower x z) l y m ∙ ap (λ (w : ℕ). scan lower w (l ++ m)) (swap-steps x z y)
+
+    -- what is lower than x, which is p or lower than p, is lower than p
+    filtered : (p x : ℕ) (l : List ℕ) → ((y : ℕ) → lower y p ≡ false → lower y x ≡ false) → lowestOr lower x (filter (λ q. lower q p) l) ≡ lowestOr lower x l
+    unfolding filter lowestOr
+    filtered p x [] h = refl
+    filtered p x (y ∷ l) h =
+        split (lower y p)
+        (λ e. rw e (filtered p (lowerOf lower x y) l (λ z k. split (lower y x) (λ a. rw a (not-lower p z y k e)) (λ a. rw a (h z k)))))
+        (λ e. rw (e, h y e) (filtered p x l h))
+
+    ends : (p : ℕ) (l : List ℕ) → let low : ℕ → Bool = λ q. lower q p in cond (not (any low l)) p (lowest lower (filter low l)) ≡ lowestOr lower p (filter low l)
+    unfolding any filter lowest lowestOr
+    ends p [] = refl
+    ends p (y ∷ l) = split (lower y p) (λ e. rw (e, e)) (λ e. rw e (ends p l))
+
+    pub next-scan : (p : ℕ) (places : List Place) → (p ≡ virtualPit → ⊥) → let ringOf : ℕ → List ℕ = λ _. members places in next lower ringOf (lowestOf lower) p ≡ scan lower p places
+    unfolding next isEnd
+    next-scan p places h =
+        rw (ne-eqb p virtualPit h)
+        (ends p (members places) ∙ filtered p p (members places) (λ y k. k) ∙ scan-lowest p places)
+
+    -- the order of `turn`
+    pub reorder : (p : ℕ) (n ne e se s sw w nw : Place)
+        → scan lower p (n ∷ ne ∷ e ∷ se ∷ s ∷ sw ∷ w ∷ nw ∷ []) ≡ scan lower p (w ∷ ne ∷ n ∷ e ∷ sw ∷ s ∷ se ∷ nw ∷ [])
+    unfolding scan
+    reorder p n ne e se s sw w nw =
+        let x = step lower (step lower (step lower (step lower p w) ne) n) e in
+        to-front p (n ∷ ne ∷ e ∷ se ∷ s ∷ sw ∷ []) w (nw ∷ [])
+        ∙ to-front (step lower p w) (n ∷ []) ne (e ∷ se ∷ s ∷ sw ∷ nw ∷ [])
+        ∙ to-front x (se ∷ s ∷ []) sw (nw ∷ [])
+        ∙ to-front (step lower x sw) (se ∷ []) s (nw ∷ [])
+
+  -- places that the scan cannot tell apart
+  Alike : List Place → List Place → Type 0
+  Alike [] [] = Unit {0}
+  Alike [] (z ∷ m) = ⊥
+  Alike (y ∷ l) [] = ⊥
+  Alike (y ∷ l) (z ∷ m) = ((x : ℕ) → step lower x y ≡ step lower x z) × Alike l m
+
+  alike-scan : (x : ℕ) (l m : List Place) → Alike l m → scan lower x l ≡ scan lower x m
+  unfolding Alike scan
+  alike-scan x [] [] h = refl
+  alike-scan x [] (z ∷ m) h = absurd h
+  alike-scan x (y ∷ l) [] h = absurd h
+  alike-scan x (y ∷ l) (z ∷ m) h = rw (h .0 x) (alike-scan (step lower x z) l m (h .1))
+
+  -- a side with the virtual pit where the post is missing, and a corner
+  side : (b taken : Bool) (q : ℕ) → (b ≡ false → taken ≡ true) → (b ≡ true → (x : ℕ) → lower virtualPit x ≡ false)
+      → (x : ℕ) → step lower x (place taken (cond b virtualPit q)) ≡ step lower x (place (not b) q)
+  side true true q h k x = rw (k refl x)
+  side true false q h k x = refl
+  side false taken q h k x = rw (h refl)
+
+  corner : (b : Bool) (q r : ℕ) → (b ≡ true → q ≡ r) → (x : ℕ) → step lower x (place b q) ≡ step lower x (place b r)
+  corner true q r h x = rw (h refl)
+  corner false q r h x = refl
+
+  -- the virtual pit, lower than p and than which nothing is lower, is what a scan from p finds where it stands at a place
+  stays : ((x : ℕ) → lower x virtualPit ≡ false) → (l : List Place) → scan lower virtualPit l ≡ virtualPit
+  unfolding scan
+  stays h [] = refl
+  stays h (y ∷ l) = rw (go (y .taken) (y .member)) (stays h l)
+    where
+      go : (b : Bool) (q : ℕ) → cond b (lowerOf lower virtualPit q) virtualPit ≡ virtualPit
+      go true q = rw (h q)
+      go false q = refl
+
+  pub to-pit : StrictTotal lower → (p : ℕ) → lower virtualPit p ≡ true → ((x : ℕ) → lower x virtualPit ≡ false)
+      → (l m : List Place) → scan lower p (l ++ place true virtualPit ∷ m) ≡ virtualPit
+  to-pit o p h k l m = to-front o p l (place true virtualPit) m ∙ rw h (stays k (l ++ m))
+
+  -- so a scan round a post on a border, the places as document 01 has them, finds it; t, l, b, f: the borders
+  pub border-pit : StrictTotal lower → (p : ℕ) → lower virtualPit p ≡ true → ((x : ℕ) → lower x virtualPit ≡ false)
+      → (n e s w : ℕ) (ne se sw nw : Place) (t l b f : Bool) → t || (l || (b || f)) ≡ true
+      → scan lower p
+      (place true (cond t virtualPit n)
+      ∷ ne
+      ∷ place (not (l && t)) (cond l virtualPit e)
+      ∷ se
+      ∷ place (not (b && (t || l))) (cond b virtualPit s)
+      ∷ sw
+      ∷ place (not (f && (t || (l || b)))) (cond f virtualPit w)
+      ∷ nw
+      ∷ [])
+      ≡ virtualPit
+  border-pit o p h k n e s w ne se sw nw true l b f i = to-pit o p h k [] _
+  border-pit o p h k n e s w ne se sw nw false true b f i = to-pit o p h k (place true n ∷ ne ∷ []) _
+  border-pit o p h k n e s w ne se sw nw false false true f i = to-pit o p h k (place true n ∷ ne ∷ place true e ∷ se ∷ []) _
+  border-pit o p h k n e s w ne se sw nw false false false true i =
+      to-pit o p h k (place true n ∷ ne ∷ place true e ∷ se ∷ place true s ∷ sw ∷ []) _
+  border-pit o p h k n e s w ne se sw nw false false false false i = absurd (true≢false (sym i))
+
+module _ {rows columns : ℕ} {hs : List ℤ} (fits : Fits rows columns hs) (p : ℕ) (post : p < rows * columns) where
+  abbrev t : Bool
+  t = top rows columns p
+
+  abbrev b : Bool
+  b = bottom rows columns p
+
+  abbrev f : Bool
+  f = first rows columns p
+
+  abbrev l : Bool
+  l = last rows columns p
+
+  three : first rows columns p ≡ false → last rows columns p ≡ false → 3 ≤ columns
+  three h k = omega (arith, first-false (sides fits p post) p .0 h, last-false (sides fits p post) p .0 k)
+
+  pub wide : (falls : ℕ → Bool) → Wide columns (bordersOf rows columns p) (cornersOf rows columns falls p)
+  wide falls =
+      record {
+        ne = λ k h. three h (off t l (not (falls (p - columns))) k .1);
+        sw = λ k h. three (off b f (not (falls (p - 1))) k .1) h;
+      }
+
+  module _ (lower : ℕ → ℕ → Bool) (o : StrictTotal lower) (falls : ℕ → Bool) where
+    turned : (isBorder rows columns p ≡ true → (x : ℕ) → lower virtualPit x ≡ false)
+        → scan lower p (places rows columns falls p) ≡ scan lower p (turn columns p (bordersOf rows columns p) (cornersOf rows columns falls p))
+    unfolding places Alike
+    turned pit =
+        let with = cornersOf rows columns falls p in
+        reorder lower o p _ _ _ _ _ _ _ _
+        ∙ alike-scan lower p _ _ (
+          side lower f (not (f && (t || (l || b)))) (p - 1) (λ e. rw e) (λ e. pit (simp (e, or-true))),
+          (
+            corner lower (with .ne) (p - columns + 1) (p - (columns - 1)) (λ k. omega (arith, north fits p post (off t l (not (falls (p - columns))) k .0))),
+            (
+              side lower t true (p - columns) (λ e. refl) (λ e. pit (rw e)),
+              (
+                side lower l (not (l && t)) (p + 1) (λ e. rw e) (λ e. pit (simp (e, or-true))),
+                (
+                  corner lower (with .sw) (p + columns - 1) (p + (columns - 1)) (λ k. omega arith),
+                  (
+                    side lower b (not (b && (t || l))) (p + columns) (λ e. rw e) (λ e. pit (simp (e, or-true))),
+                    (
+                      corner lower (with .se) (p + columns + 1) (p + (columns + 1)) (λ k. omega arith),
+                      (
+                        corner lower (with .nw) (p - columns - 1) (p - (columns + 1)) (λ k. omega arith),
+                        tt,
+                      ),
+                    ),
+                  ),
+                ),
+              ),
+            ),
+          ),
+        )
+
+  nothing-below : (x : ℕ) → below hs x virtualPit ≡ false
+  unfolding below
+  nothing-below x = rw (eq-eqb virtualPit virtualPit refl)
+
+  pub up-is : nextUp rows columns hs p ≡ scan (toward hs true) p (turn columns p (bordersOf rows columns p) (cornersOf rows columns (throughLowest (below hs) columns) p))
+  unfolding nextUp next isEnd ringOf ring
+  up-is =
+      let o = reversed-strict (below-strict hs) in
+      let falls = throughLowest (below hs) columns in
+      next-scan (reversed (below hs)) o p (places rows columns falls p) (no-pit fits p post)
+      ∙ turned (reversed (below hs)) o falls (λ _. nothing-below)
+
+  pub down-is : isBorder rows columns p ≡ false
+      → nextDown rows columns hs p ≡ scan (toward hs false) p (turn columns p (bordersOf rows columns p) (cornersOf rows columns (throughLowest (below hs) columns) p))
+  unfolding nextDown next isEnd ringOf ring
+  down-is h =
+      let o = below-strict hs in
+      let falls = throughLowest (below hs) columns in
+      next-scan (below hs) o p (places rows columns falls p) (no-pit fits p post)
+      ∙ turned (below hs) o falls (λ k. absurd (true≢false (sym k ∙ h)))
+
+  pub down-pit : isBorder rows columns p ≡ true → nextDown rows columns hs p ≡ virtualPit
+  unfolding nextDown next isEnd ringOf ring places
+  down-pit h =
+      next-scan (below hs) (below-strict hs) p (places rows columns (throughLowest (below hs) columns) p) (no-pit fits p post)
+      ∙ border-pit (below hs) (below-strict hs) p (pit-below hs p (no-pit fits p post)) nothing-below _ _ _ _ _ _ _ _ t l b f h
+
+-- a post on no border
+module _ {rows columns : ℕ} {hs : List ℤ} {p : ℕ} {nw ne sw se : Bool} (i : Inside rows columns hs p nw ne sw se) where
+  pub room-inside : Room (length hs) columns p inside (cornersBy nw ne sw se) × Wide columns inside (cornersBy nw ne sw se)
+  room-inside =
+      let falls = throughLowest (below hs) columns in
+      rw (← borders-are i, ← corners-are i) (room (i .fits) p (i .post) falls, wide (i .fits) p (i .post) falls)
+
+  pub next-is : (up : Bool) → cond up (nextUp rows columns hs p) (nextDown rows columns hs p) ≡ scan (toward hs up) p (turn columns p inside (cornersBy nw ne sw se))
+  next-is up =
+      go up
+      ∙ ap (λ (at : Borders). scan (toward hs up) p (turn columns p at (cornersOf rows columns (throughLowest (below hs) columns) p))) (borders-are i)
+      ∙ ap (λ (with : Corners). scan (toward hs up) p (turn columns p inside with)) (corners-are i)
+    where
+      go : (up : Bool) → cond up (nextUp rows columns hs p) (nextDown rows columns hs p) ≡ scan (toward hs up) p (turn columns p (bordersOf rows columns p) (cornersOf rows columns (throughLowest (below hs) columns) p))
+      go true = up-is (i .fits) p (i .post)
+      go false = down-is (i .fits) p (i .post) (i .border)

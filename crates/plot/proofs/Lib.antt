@@ -1,0 +1,6 @@
+-- Laws about one post, which the leaves' proofs cite.
+pub mod Order
+pub mod Diagonal
+pub mod Round
+pub mod Extreme
+pub mod Steps

@@ -1,0 +1,19 @@
+use mathlib.Core.Path.{sym}
+use Rattle.plot.proofs.Round.{mark-by-signs}
+use borrow.Author.Needs.{needs}
+use Rattle.plot.proofs.mark.mark_at.Statement.{statement}
+use Rattle.plot.proofs.mark.mark_at.Tie as tie
+
+signs-at-requires : tie.Need-signs-at-requires
+signs-at-requires c κs = search needs
+
+mark-of-requires : tie.Need-mark-of-requires
+mark-of-requires c κs = search needs
+
+returns : tie.Need-returns
+returns c =
+    let start = c .before .before in
+    rw (c .mark-of .ensures, c .before .signs-at .ensures) (sym (mark-by-signs (start .pre .0) (start .args .p) (start .pre .1)))
+
+pub mark-at-spec : {M : Type 1} → statement M
+mark-at-spec = tie.close (tie.spec signs-at-requires mark-of-requires returns)

@@ -1,0 +1,25 @@
+// On which borders a post stands.
+ghost use mathlib.Core.Path.{_≡_};
+ghost use Prim.Native.Nat.{_*_, _<_, _≤_};
+ghost use Rattle.plot.specs.Borders.{bordersOf};
+
+pub struct Borders {
+    pub top: bool,
+    pub bottom: bool,
+    pub first: bool,
+    pub last: bool,
+}
+
+pub fn borders_of(rows: usize, columns: usize, p: usize) -> Borders
+    requires { ⌜ (2 ≤ columns) × (columns ≤ 120) × (p < 14400) ⌝ }
+    ensures { λ r. ⌜ r ≡ bordersOf rows columns p ⌝ }
+{
+    let row = p / columns;
+    let column = p % columns;
+    Borders {
+        top: row == 0,
+        bottom: row + 1 == rows,
+        first: column == 0,
+        last: column + 1 == columns,
+    }
+}

@@ -1,0 +1,120 @@
+// The virtual pit is 65535. Next down and next up from a post: a scan of the neighbours, one comparison of heights each and no branch. The neighbours come in an order in which
+// each is numbered before, or after, all that may have been found so far, so that the order of the numbers settles a tie.
+use crate::border;
+use crate::border::Borders;
+use crate::cell;
+use crate::side;
+use crate::sign;
+use crate::sign::Corners;
+ghost use mathlib.Core.Path.{_≡_};
+ghost use mathlib.Core.Bool.{true, cond};
+ghost use Prim.Native.Nat.{_+_, _-_, _*_, _≤_, _<_};
+ghost use lib.ListN.{length};
+ghost use Rattle.surface.specs.Lines.{nextDown, nextUp};
+ghost use Rattle.plot.specs.Fits.{Fits};
+ghost use Rattle.plot.specs.Signs.{Room, Inside};
+ghost use Rattle.plot.specs.Scan.{toward, scan, turn, Back, Ahead, Wide};
+
+// x where b holds, else y.
+pub fn choose(b: bool, x: usize, y: usize) -> usize
+    ensures { λ r. ⌜ r ≡ cond b x y ⌝ }
+{
+    if b { x } else { y }
+}
+
+// The lower of x and the post d numbers before p, the higher where `up`; x where that post is not there. It is numbered before x.
+pub fn step_back(heights: &[i32], up: bool, x: usize, p: usize, d: usize, there: bool) -> usize
+    requires { ⌜ (p < length (now heights)) × (x < length (now heights)) × (length (now heights) ≤ 14400) × (p - d ≤ x) × (there ≡ true → (d ≤ p) × (p - d < x)) ⌝ }
+    ensures { λ r. ⌜ Back (toward (now (heights .entry)) up) x p d there r ⌝ }
+{
+    let q = p - choose(there, d, 0);
+    let less = cell::less(heights, x, q);
+    let take = side::pick(up, less, !less);
+    choose(there & take, q, x)
+}
+
+// The same of the post d numbers after p, which is numbered after x.
+pub fn step_ahead(heights: &[i32], up: bool, x: usize, p: usize, d: usize, there: bool) -> usize
+    requires { ⌜ (p < length (now heights)) × (x < length (now heights)) × (length (now heights) ≤ 14400) × (x ≤ p + d) × (there ≡ true → (p + d < length (now heights)) × (x < p + d)) ⌝ }
+    ensures { λ r. ⌜ Ahead (toward (now (heights .entry)) up) (length (now (heights .entry))) x p d there r ⌝ }
+{
+    let q = p + choose(there, d, 0);
+    let less = cell::less(heights, q, x);
+    let take = side::pick(up, !less, less);
+    choose(there & take, q, x)
+}
+
+// The lowest of p and its neighbours, the highest where `up`; p stands at these borders and is joined to these corners.
+pub fn lowest_round(
+    heights: &[i32],
+    up: bool,
+    columns: usize,
+    p: usize,
+    at: Borders,
+    with: Corners,
+) -> usize
+    requires { ⌜ Room (length (now heights)) columns p at with × Wide columns at with ⌝ }
+    ensures { λ r. ⌜ r ≡ scan (toward (now (heights .entry)) up) p (turn columns p at with) ⌝ }
+{
+    let w = step_back(heights, up, p, p, 1, !at.first);
+    let ne = step_back(heights, up, w, p, columns - 1, with.ne);
+    let n = step_back(heights, up, ne, p, columns, !at.top);
+    let e = step_ahead(heights, up, n, p, 1, !at.last);
+    let sw = step_ahead(heights, up, e, p, columns - 1, with.sw);
+    let s = step_ahead(heights, up, sw, p, columns, !at.bottom);
+    let se = step_ahead(heights, up, s, p, columns + 1, with.se);
+    step_back(heights, up, se, p, columns + 1, with.nw)
+}
+
+// Next up from any post.
+pub fn next_up_at(heights: &[i32], rows: usize, columns: usize, p: usize) -> usize
+    requires { ⌜ Fits rows columns (now heights) × (p < rows * columns) ⌝ }
+    ensures { λ r. ⌜ r ≡ nextUp rows columns (now (heights .entry)) p ⌝ }
+{
+    let at = border::borders_of(rows, columns, p);
+    let with = sign::corners_of(heights, rows, columns, p, at);
+    lowest_round(heights, true, columns, p, at, with)
+}
+
+// Next down from any post; from one on a border it is the virtual pit.
+pub fn next_down_at(heights: &[i32], rows: usize, columns: usize, p: usize) -> usize
+    requires { ⌜ Fits rows columns (now heights) × (p < rows * columns) ⌝ }
+    ensures { λ r. ⌜ r ≡ nextDown rows columns (now (heights .entry)) p ⌝ }
+{
+    let at = border::borders_of(rows, columns, p);
+    if at.top | (at.last | (at.bottom | at.first)) {
+        return 65535;
+    }
+    let with = sign::corners_of(heights, rows, columns, p, at);
+    lowest_round(heights, false, columns, p, at, with)
+}
+
+// Next down, or next up, from a post on no border, where it is known which diagonals round it fall.
+pub fn next_inside(
+    heights: &[i32],
+    rows: usize,
+    columns: usize,
+    p: usize,
+    nw: bool,
+    ne: bool,
+    sw: bool,
+    se: bool,
+    up: bool,
+) -> usize
+    requires { ⌜ Inside rows columns (now heights) p nw ne sw se ⌝ }
+    ensures { λ r. ⌜ r ≡ cond up (nextUp rows columns (now (heights .entry)) p) (nextDown rows columns (now (heights .entry)) p) ⌝ }
+{
+    let at = Borders {
+        top: false,
+        bottom: false,
+        first: false,
+        last: false,
+    };
+    let with = Corners {
+        ne: !ne,
+        se,
+        sw: !sw,
+        nw,
+    };
+    lowest_round(heights, up, columns, p, at, with)
+}
