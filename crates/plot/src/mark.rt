@@ -27,13 +27,9 @@ pub fn mark_by(first: bool, runs: u8) -> u8
     requires { ⌜ runs ≤ 8 ⌝ }
     ensures { λ r. ⌜ r ≡ markBy first runs ⌝ }
 {
-    if runs == 0 {
-        return 2 - first as u8;
-    }
-    if runs == 1 {
-        return 0;
-    }
-    runs + 1
+    let saddle = (1 < runs) as u8 * (runs + 1);
+    let extreme = (runs == 0) as u8 * (2 - first as u8);
+    saddle + extreme
 }
 
 // The mark of a post with these signs.
