@@ -1,5 +1,5 @@
-// The virtual pit is 65535. Next down and next up from a post: a scan of the neighbours, one comparison of heights each and no branch. The neighbours come in an order in which
-// each is numbered before, or after, all that may have been found so far, so that the order of the numbers settles a tie.
+// Next down and next up from a post: a scan of the neighbours, one comparison of heights each and no branch. The neighbours come in an order in which
+// each is numbered before, or after, all that may have been found so far, so that the order of the numbers settles a tie. The virtual pit is 65535.
 use crate::border;
 use crate::border::Borders;
 use crate::cell;
