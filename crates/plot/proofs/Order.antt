@@ -1,7 +1,7 @@
 -- The height order of two posts whose numbers are in order, by one comparison of their heights.
 use Prim.Native.Nat.{ℕ, _<_}
 use mathlib.Core.Path.{_≡_, refl, sym, ap}
-use mathlib.Core.Bool.{Bool, true, false, cond, not, _&&_, _||_, true≢false, and-true, and-false, or-false}
+use mathlib.Core.Bool.{Bool, true, false, cond, not, _||_, true≢false, and-true, and-false, or-false}
 use mathlib.Core.List.{List}
 use native.Mathlib.Omega.{arith}
 use lib.IntN.{ℤ, pos, negsuc}

@@ -12,9 +12,9 @@ use borrow.Author.Tests.{not-true}
 use Rattle.surface.specs.Lists.{keep}
 use Rattle.surface.specs.Plot.{virtualPit, below}
 use Rattle.surface.specs.Edges.{top, bottom, first, last, Place, members, places, ring, throughLowest}
-use Rattle.surface.specs.Marks.{mark, ringOf, markAt}
+use Rattle.surface.specs.Marks.{ringOf, markAt}
 use Rattle.surface.proofs.Bools.{and-left, or-left, or-right}
-use Rattle.surface.proofs.Grid.{Sides, top-false, bottom-false, not-first, top-bottom, last-first, last-false, first-false, post-is, column-lt, south-last, north-first, south-post, east-post}
+use Rattle.surface.proofs.Grid.{Sides, top-false, bottom-false, not-first, top-bottom, last-first, south-last, north-first, east-post}
 use Rattle.surface.proofs.Order.{below-strict, pit-below}
 use Rattle.surface.proofs.Signs as surface
 use Rattle.surface.proofs.Signs.{carried, signs, markOfSigns, mark-signs}

@@ -38,7 +38,22 @@ turn columns p at with =
     ∷ place (with .nw) (p - (columns + 1))
     ∷ []
 
--- what a step to a place d numbers before p, or after it, gives: the value, and where its number lies
+-- what a step from x to the place d numbers before p, or after it, asks: in a plot of n posts x is numbered after what is there, or before it
+pub record BackAsks (n x p d : ℕ) (there : Bool) : Type 0 where
+  pub post : p < n
+  pub found : x < n
+  pub small : n ≤ 14400
+  pub near : p - d ≤ x
+  pub taken : there ≡ true → (d ≤ p) × (p - d < x)
+
+pub record AheadAsks (n x p d : ℕ) (there : Bool) : Type 0 where
+  pub post : p < n
+  pub found : x < n
+  pub small : n ≤ 14400
+  pub near : x ≤ p + d
+  pub taken : there ≡ true → (p + d < n) × (x < p + d)
+
+-- and what it gives: the value, and where its number lies
 pub record Back (lower : ℕ → ℕ → Bool) (x p d : ℕ) (there : Bool) (r : ℕ) : Type 0 where
   pub value : r ≡ step lower x (place there (p - d))
   pub low : p - d ≤ r

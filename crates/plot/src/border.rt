@@ -1,6 +1,6 @@
 // On which borders a post stands.
 ghost use mathlib.Core.Path.{_≡_};
-ghost use Prim.Native.Nat.{_*_, _<_, _≤_};
+ghost use Prim.Native.Nat.{_<_, _≤_};
 ghost use Rattle.plot.specs.Borders.{bordersOf};
 
 pub struct Borders {

@@ -5,10 +5,7 @@ use crate::sign;
 use crate::sign::Corners;
 use crate::sign::Signs;
 ghost use mathlib.Core.Path.{_≡_};
-ghost use mathlib.Core.Bool.{false, not};
 ghost use Prim.Native.Nat.{_+_, _*_, _≤_, _<_};
-ghost use lib.ListN.{length};
-ghost use Rattle.surface.specs.Plot.{below};
 ghost use Rattle.surface.specs.Marks.{markAt};
 ghost use Rattle.surface.proofs.Runs.{markBy};
 ghost use Rattle.surface.proofs.Signs.{rise, markOfSigns};
@@ -27,13 +24,9 @@ pub fn mark_by(first: bool, runs: u8) -> u8
     requires { ⌜ runs ≤ 8 ⌝ }
     ensures { λ r. ⌜ r ≡ markBy first runs ⌝ }
 {
-    if runs == 0 {
-        return 2 - first as u8;
-    }
-    if runs == 1 {
-        return 0;
-    }
-    runs + 1
+    let saddle = (1 < runs) as u8 * (runs + 1);
+    let extreme = (runs == 0) as u8 * (2 - first as u8);
+    saddle + extreme
 }
 
 // The mark of a post with these signs.

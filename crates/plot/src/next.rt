@@ -1,5 +1,5 @@
-// The virtual pit is 65535. Next down and next up from a post: a scan of the neighbours, one comparison of heights each and no branch. The neighbours come in an order in which
-// each is numbered before, or after, all that may have been found so far, so that the order of the numbers settles a tie.
+// Next down and next up from a post: a scan of the neighbours, one comparison of heights each and no branch. The neighbours come in an order in which
+// each is numbered before, or after, all that may have been found so far, so that the order of the numbers settles a tie. The virtual pit is 65535.
 use crate::border;
 use crate::border::Borders;
 use crate::cell;
@@ -13,7 +13,7 @@ ghost use lib.ListN.{length};
 ghost use Rattle.surface.specs.Lines.{nextDown, nextUp};
 ghost use Rattle.plot.specs.Fits.{Fits};
 ghost use Rattle.plot.specs.Signs.{Room, Inside};
-ghost use Rattle.plot.specs.Scan.{toward, scan, turn, Back, Ahead, Wide};
+ghost use Rattle.plot.specs.Scan.{toward, scan, turn, BackAsks, Back, AheadAsks, Ahead, Wide};
 
 // x where b holds, else y.
 pub fn choose(b: bool, x: usize, y: usize) -> usize
@@ -24,7 +24,7 @@ pub fn choose(b: bool, x: usize, y: usize) -> usize
 
 // The lower of x and the post d numbers before p, the higher where `up`; x where that post is not there. It is numbered before x.
 pub fn step_back(heights: &[i32], up: bool, x: usize, p: usize, d: usize, there: bool) -> usize
-    requires { ⌜ (p < length (now heights)) × (x < length (now heights)) × (length (now heights) ≤ 14400) × (p - d ≤ x) × (there ≡ true → (d ≤ p) × (p - d < x)) ⌝ }
+    requires { ⌜ BackAsks (length (now heights)) x p d there ⌝ }
     ensures { λ r. ⌜ Back (toward (now (heights .entry)) up) x p d there r ⌝ }
 {
     let q = p - choose(there, d, 0);
@@ -35,7 +35,7 @@ pub fn step_back(heights: &[i32], up: bool, x: usize, p: usize, d: usize, there:
 
 // The same of the post d numbers after p, which is numbered after x.
 pub fn step_ahead(heights: &[i32], up: bool, x: usize, p: usize, d: usize, there: bool) -> usize
-    requires { ⌜ (p < length (now heights)) × (x < length (now heights)) × (length (now heights) ≤ 14400) × (x ≤ p + d) × (there ≡ true → (p + d < length (now heights)) × (x < p + d)) ⌝ }
+    requires { ⌜ AheadAsks (length (now heights)) x p d there ⌝ }
     ensures { λ r. ⌜ Ahead (toward (now (heights .entry)) up) (length (now (heights .entry))) x p d there r ⌝ }
 {
     let q = p + choose(there, d, 0);

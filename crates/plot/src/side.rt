@@ -56,9 +56,9 @@ pub fn falls_back(heights: &[i32], columns: usize, p: usize, d: usize, there: bo
     false
 }
 
-// x where b holds, else y, with no branch.
+// x where b holds, else y. So written, the compiler makes no branch of it.
 pub fn pick(b: bool, x: bool, y: bool) -> bool
     ensures { λ r. ⌜ r ≡ cond b x y ⌝ }
 {
-    b & x | !b & y
+    y ^ (b & (x ^ y))
 }

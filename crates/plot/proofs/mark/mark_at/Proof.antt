@@ -1,3 +1,4 @@
+-- The law that a mark is that of the signs.
 use mathlib.Core.Path.{sym}
 use Rattle.plot.proofs.Round.{mark-by-signs}
 use borrow.Author.Needs.{needs}

@@ -1,3 +1,4 @@
+-- The law of a post on no border.
 use mathlib.Core.Path.{sym}
 use native.Mathlib.Omega.{arith}
 use Rattle.plot.proofs.Round.{few, inside-bounds, mark-by-falls}

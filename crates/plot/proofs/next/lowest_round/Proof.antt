@@ -10,56 +10,58 @@ use Rattle.plot.proofs.next.lowest_round.Tie as tie
 step-back-requires : tie.Need-step-back-requires
 step-back-requires c κs =
     let start = c .before in
-    (omega arith, omega arith, omega arith, omega arith, λ h. omega (arith, start .pre .0 .west h))
+    record { post = omega arith; found = omega arith; small = omega arith; near = omega arith; taken = λ h. omega (arith, start .pre .0 .west h) }
 
 sub-step-back : tie.Need-sub-step-back
 sub-step-back c = search needs
 
 step-back-requires-2 : tie.Need-step-back-requires-2
 step-back-requires-2 c κs =
-    let start = c .before .before in (
-      omega arith,
-      omega arith,
-      omega arith,
-      omega arith,
-      λ h.
+    let start = c .before .before in
+    record {
+      post = omega arith;
+      found = omega arith;
+      small = omega arith;
+      near = omega arith;
+      taken = λ h.
           let ne : start .args .p - (start .args .columns - 1) < c .step-back .result
           = wide-back (start .args .at .first) _ _ _ (c .step-back .ensures .kept) (start .pre .1 .ne h) (omega arith) (start .pre .0 .northEast h) (omega arith)
           in
-          omega (arith, start .pre .0 .northEast h),
-    )
+          omega (arith, start .pre .0 .northEast h);
+    }
 
 step-back-requires-3 : tie.Need-step-back-requires-3
 step-back-requires-3 c κs =
     let start = c .before .before .before .before in
-    (omega arith, omega arith, omega arith, omega arith, λ h. omega (arith, start .pre .0 .north h))
+    record { post = omega arith; found = omega arith; small = omega arith; near = omega arith; taken = λ h. omega (arith, start .pre .0 .north h) }
 
 step-ahead-requires : tie.Need-step-ahead-requires
 step-ahead-requires c κs =
     let start = c .before .before .before .before .before .before in
-    (omega arith, omega arith, omega arith, omega arith, λ h. omega (arith, start .pre .0 .east h))
+    record { post = omega arith; found = omega arith; small = omega arith; near = omega arith; taken = λ h. omega (arith, start .pre .0 .east h) }
 
 sub-step-ahead : tie.Need-sub-step-ahead
 sub-step-ahead c = search needs
 
 step-ahead-requires-2 : tie.Need-step-ahead-requires-2
 step-ahead-requires-2 c κs =
-    let start = c .before .before .before .before .before .before .before in (
-      omega arith,
-      omega arith,
-      omega arith,
-      omega arith,
-      λ h.
+    let start = c .before .before .before .before .before .before .before in
+    record {
+      post = omega arith;
+      found = omega arith;
+      small = omega arith;
+      near = omega arith;
+      taken = λ h.
           let sw : c .step-ahead .result < start .args .p + (start .args .columns - 1)
           = wide-ahead (start .args .at .last) _ (c .before .before .step-back3 .result) _ _ (c .step-ahead .ensures .kept) (start .pre .1 .sw h) (omega arith) (omega arith) (omega arith)
           in
-          omega (arith, start .pre .0 .southWest h),
-    )
+          omega (arith, start .pre .0 .southWest h);
+    }
 
 step-ahead-requires-3 : tie.Need-step-ahead-requires-3
 step-ahead-requires-3 c κs =
     let start = c .before .before .before .before .before .before .before .before .before in
-    (omega arith, omega arith, omega arith, omega arith, λ h. omega (arith, start .pre .0 .south h))
+    record { post = omega arith; found = omega arith; small = omega arith; near = omega arith; taken = λ h. omega (arith, start .pre .0 .south h) }
 
 add-step-ahead : tie.Need-add-step-ahead
 add-step-ahead c = search needs
@@ -67,7 +69,7 @@ add-step-ahead c = search needs
 step-ahead-requires-4 : tie.Need-step-ahead-requires-4
 step-ahead-requires-4 c κs =
     let start = c .before .before .before .before .before .before .before .before .before .before in
-    (omega arith, omega arith, omega arith, omega arith, λ h. omega (arith, start .pre .0 .southEast h))
+    record { post = omega arith; found = omega arith; small = omega arith; near = omega arith; taken = λ h. omega (arith, start .pre .0 .southEast h) }
 
 add-step-back : tie.Need-add-step-back
 add-step-back c = omega (arith, c .before .before .before .before .before .before .before .before .before .before .before .pre .0 .narrow)
@@ -75,7 +77,7 @@ add-step-back c = omega (arith, c .before .before .before .before .before .befor
 step-back-requires-4 : tie.Need-step-back-requires-4
 step-back-requires-4 c κs =
     let start = c .before .before .before .before .before .before .before .before .before .before .before in
-    (omega arith, omega arith, omega arith, omega arith, λ h. omega (arith, start .pre .0 .northWest h))
+    record { post = omega arith; found = omega arith; small = omega arith; near = omega arith; taken = λ h. omega (arith, start .pre .0 .northWest h) }
 
 returns : tie.Need-returns
 returns c =

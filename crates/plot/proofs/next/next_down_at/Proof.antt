@@ -1,3 +1,4 @@
+-- On a border the virtual pit is found; elsewhere next down is what the scan finds.
 use mathlib.Core.Path.{sym}
 use native.Mathlib.Omega.{arith}
 use Rattle.surface.specs.Plot.{virtualPit, below}

@@ -1,3 +1,4 @@
+-- The law of a post on no border.
 use mathlib.Core.Path.{sym, _∙_}
 use Rattle.plot.proofs.Extreme.{room-inside, next-is}
 use Rattle.plot.proofs.next.next_inside.Statement.{statement}

@@ -1,3 +1,4 @@
+-- The law that next up is what the scan finds.
 use mathlib.Core.Path.{sym}
 use native.Mathlib.Omega.{arith}
 use Rattle.surface.specs.Plot.{below}

@@ -12,12 +12,12 @@ choose-requires c κs = search needs
 add-q : tie.Need-add-q
 add-q c =
     let start = c .before in
-    rw (c .choose .ensures) (omega (arith, ahead-post (start .args .there) (length (start .args .heights .now)) (start .args .p) (start .args .d) (start .pre .0) (λ h. start .pre .4 h .0)))
+    rw (c .choose .ensures) (omega (arith, ahead-post (start .args .there) (length (start .args .heights .now)) (start .args .p) (start .args .d) (start .pre .post) (λ h. start .pre .taken h .0)))
 
 less-requires : tie.Need-less-requires
 less-requires c κs =
     let start = c .before in
-    rw (c .choose .ensures) (ahead-post (start .args .there) (length (start .args .heights .now)) (start .args .p) (start .args .d) (start .pre .0) (λ h. start .pre .4 h .0), start .pre .1)
+    rw (c .choose .ensures) (ahead-post (start .args .there) (length (start .args .heights .now)) (start .args .p) (start .args .d) (start .pre .post) (λ h. start .pre .taken h .0), start .pre .found)
 
 pick-requires : tie.Need-pick-requires
 pick-requires c κs = search needs
@@ -30,7 +30,7 @@ returns c =
     let start = c .before .before .before .before in
     let a = start .args in
     rw (c .choose2 .ensures, c .before .pick .ensures, c .before .before .less .ensures, c .before .before .before .choose .ensures)
-    (ahead-step (a .heights .now) (a .up) (a .x) (a .p) (a .d) (length (a .heights .now)) (a .there) (start .pre .2) (start .pre .1) (start .pre .3) (start .pre .4))
+    (ahead-step (a .heights .now) (a .up) (a .x) (a .p) (a .d) (length (a .heights .now)) (a .there) (start .pre .small) (start .pre .found) (start .pre .near) (start .pre .taken))
 
 pub step-ahead-spec : {M : Type 1} → statement M
 step-ahead-spec =

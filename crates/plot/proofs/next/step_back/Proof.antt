@@ -12,7 +12,7 @@ choose-requires c κs = search needs
 sub-q : tie.Need-sub-q
 sub-q c =
     let start = c .before in
-    rw (c .choose .ensures) (back-post (start .args .there) (start .args .p) (start .args .d) (λ h. start .pre .4 h .0))
+    rw (c .choose .ensures) (back-post (start .args .there) (start .args .p) (start .args .d) (λ h. start .pre .taken h .0))
 
 less-requires : tie.Need-less-requires
 less-requires c κs = search needs
@@ -29,7 +29,7 @@ returns c =
     let start = c .before .before .before .before in
     let a = start .args in
     rw (c .choose2 .ensures, c .before .pick .ensures, c .before .before .less .ensures, c .before .before .before .choose .ensures)
-    (back-step (a .heights .now) (a .up) (a .x) (a .p) (a .d) (a .there) (omega arith) (start .pre .3) (start .pre .4))
+    (back-step (a .heights .now) (a .up) (a .x) (a .p) (a .d) (a .there) (omega arith) (start .pre .near) (start .pre .taken))
 
 pub step-back-spec : {M : Type 1} → statement M
 step-back-spec =

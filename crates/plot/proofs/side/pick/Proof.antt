@@ -1,12 +1,16 @@
--- The two cases.
+-- The truth table.
 use mathlib.Core.Path.{_≡_, refl}
-use mathlib.Core.Bool.{Bool, true, false, cond, not, _&&_, _||_, or-false}
+use mathlib.Core.Bool.{Bool, true, false, cond, not, _&&_, Bool·beq}
 use Rattle.plot.proofs.side.pick.Statement.{statement}
 use Rattle.plot.proofs.side.pick.Tie as tie
 
-picked : (b x y : Bool) → b && x || not b && y ≡ cond b x y
-picked true x y = or-false x
-picked false x y = refl
+picked : (b x y : Bool) → not (Bool·beq y (b && not (Bool·beq x y))) ≡ cond b x y
+picked true true true = refl
+picked true true false = refl
+picked true false true = refl
+picked true false false = refl
+picked false x true = refl
+picked false x false = refl
 
 returns : tie.Need-returns
 returns c = picked (c .args .b) (c .args .x) (c .args .y)

@@ -1,3 +1,4 @@
+-- The cells that are there have their four posts in the plot; then the truth table of a corner.
 use Prim.Native.Nat.{_+_, _-_}
 use mathlib.Core.Path.{_≡_}
 use Rattle.surface.specs.Plot.{below}

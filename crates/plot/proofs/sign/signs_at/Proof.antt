@@ -1,3 +1,4 @@
+-- The law that signs by borders and corners are those that settle the mark.
 use native.Mathlib.Omega.{arith}
 use Rattle.surface.specs.Plot.{below}
 use Rattle.surface.specs.Edges.{throughLowest}

@@ -1,3 +1,4 @@
+-- Each neighbour that is there is a post, and the signs follow one another as in `signsOf`.
 use Rattle.plot.specs.Signs.{signsOf}
 use native.Mathlib.Omega.{arith}
 use Rattle.plot.proofs.sign.signs_of.Statement.{statement}
