@@ -1,2 +1,3 @@
 -- The laws, over the definitions of specs/.
+pub mod FirstNot
 pub mod Starred
