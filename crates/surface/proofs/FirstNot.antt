@@ -1,13 +1,17 @@
 -- The place of the first element that fails a test, by a scan: what the rest of the list gives at each place.
-use Prim.Native.Nat.{ℕ, suc, _+_, _<_, _≤_}
+use Prim.Native.Nat.{ℕ, zero, suc, _+_, _<_, _≤_}
 use native.Mathlib.Numerals.{add-one}
 use native.Mathlib.Omega.{arith}
-use mathlib.Core.Path.{_≡_, refl}
-use mathlib.Core.Bool.{Bool, true, false}
+use mathlib.Core.Path.{_≡_, refl, ap}
+use mathlib.Core.Bool.{Bool, true, false, cond}
 use mathlib.Core.List.{List, [], _∷_}
 use lib.ListN.{length, getD, drop, drop-of-length-le}
 use lib.Seq.{drop-cons}
 use Rattle.surface.specs.Lists.{firstNot}
+
+counted : (b : Bool) {m n : ℕ} → cond b (suc m) 0 ≡ suc n → (b ≡ true) × (m ≡ n)
+counted true e = (refl, omega arith)
+counted false e = absurd (omega arith)
 
 module _ {A : Type 0} (s : A → Bool) where
   module _ (l : List A) (i : ℕ) (d : A) (h : i < length l) where
@@ -22,3 +26,24 @@ module _ {A : Type 0} (s : A → Bool) where
   pub firstNot-end : (l : List A) (i : ℕ) → length l ≤ i → firstNot s (drop i l) ≡ 0
   unfolding firstNot
   firstNot-end l i h = rw drop-of-length-le
+
+  pub firstNot-le : (l : List A) → firstNot s l ≤ length l
+  unfolding firstNot
+  firstNot-le [] = omega arith
+  firstNot-le (x ∷ l) = by (s x) (firstNot-le l)
+    where
+      by : (b : Bool) → firstNot s l ≤ length l → cond b (suc (firstNot s l)) 0 ≤ suc (length l)
+      by true h = omega arith
+      by false h = omega arith
+
+  -- where none fails, each passes
+  pub firstNot-all : (l : List A) (d : A) → firstNot s l ≡ length l → (i : ℕ) → i < length l → s (getD l i d) ≡ true
+  unfolding firstNot
+  firstNot-all [] d e i h = absurd (omega arith)
+  firstNot-all (x ∷ l) d e zero h = counted (s x) e .0
+  firstNot-all (x ∷ l) d e (suc i) h = firstNot-all l d (counted (s x) e .1) i (omega arith)
+
+  pub all-firstNot : (l : List A) (d : A) → ((i : ℕ) → i < length l → s (getD l i d) ≡ true) → firstNot s l ≡ length l
+  unfolding firstNot
+  all-firstNot [] d f = refl
+  all-firstNot (x ∷ l) d f = rw (f 0 (omega arith)) (ap suc (all-firstNot l d (λ i h. f (suc i) (omega arith))))

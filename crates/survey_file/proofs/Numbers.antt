@@ -101,7 +101,7 @@ rounded-up (negsuc n) e = let z : _≡_ {A = ℕ} 0 1 = cc (neg-up (suc n % 10))
 pub rounded-down : (t : ℤ) → leZ (remZ t (pos 10)) (negsuc 4) ≡ true → quotZ t (pos 10) -ℤ pos 1 ≡ rounded t
 unfolding rounded
 rounded-down (pos n) e = let z : _≡_ {A = ℕ} 0 1 = cc in absurd (omega arith)
-rounded-down (negsuc n) e = 
+rounded-down (negsuc n) e =
     let half : 5 ≤ suc n % 10 = leb-true 5 (suc n % 10) (sym (neg-down (suc n % 10)) ∙ e) in
     let up : suc (suc n / 10) ≡ (n + 1 + 5) / 10 = omega arith in
     neg-less (suc n / 10) ∙ ap (λ (k : ℕ). negℤ (pos k)) up
@@ -109,7 +109,7 @@ rounded-down (negsuc n) e =
 pub rounded-same : (t : ℤ) → leZ (pos 5) (remZ t (pos 10)) ≡ false → leZ (remZ t (pos 10)) (negsuc 4) ≡ false → quotZ t (pos 10) ≡ rounded t
 unfolding rounded
 rounded-same (pos n) e d = ap pos (omega (arith, leb-false 5 (n % 10) e))
-rounded-same (negsuc n) e d = 
+rounded-same (negsuc n) e d =
     let low : suc n % 10 < 5 = leb-false 5 (suc n % 10) (sym (neg-down (suc n % 10)) ∙ d) in
     let same : suc n / 10 ≡ (n + 1 + 5) / 10 = omega arith in
     ap (λ (k : ℕ). negℤ (pos k)) same

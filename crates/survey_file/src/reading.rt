@@ -1,11 +1,11 @@
 // Reading a survey file: whether it is turned away, and what it holds.
-use plot::limits::is_plot;
-use surface::Answer;
 use crate::tenths::first_out;
 use crate::tenths::round;
 use crate::tenths::tenths_at;
 use crate::words::wide;
 use crate::words::word_at;
+use plot::limits::is_plot;
+use surface::Answer;
 ghost use mathlib.Core.Path.{_≡_};
 ghost use Prim.Native.Nat.{_+_, _*_, _≤_};
 ghost use lib.ListN.{length};

@@ -1,9 +1,9 @@
 // Writing a survey file: whether it is turned away, and what goes into it.
+use crate::tenths::filed;
+use crate::words::put_word;
 use plot::limits::first_out;
 use plot::limits::is_plot;
 use surface::Answer;
-use crate::tenths::filed;
-use crate::words::put_word;
 ghost use mathlib.Core.Path.{_≡_};
 ghost use mathlib.Core.Bool.{true, _&&_};
 ghost use mathlib.Core.List.{_∷_, _++_};

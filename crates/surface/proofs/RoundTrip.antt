@@ -1,0 +1,123 @@
+-- Document 01, "Survey file": a file that is written reads back to the same heights, and a file that is read has exactly its size.
+use Prim.Native.Nat.{ℕ, zero, suc, _+_, _*_, _<_, _≤_}
+use native.Mathlib.Nat.{mul-le-mul}
+use native.Mathlib.Omega.{arith}
+use mathlib.Core.Path.{_≡_, refl, sym, _∙_, ap}
+use mathlib.Core.Bool.{Bool, true, false, cond, not, _&&_}
+use mathlib.Core.List.{List, [], _∷_, _++_, map, map-map}
+use borrow.Author.Tests.{eq-eqb, leb-true}
+use lib.Dec.{leb}
+use lib.IntN.{ℤ, pos, _*ℤ_}
+use lib.ListN.{length, getD, length-append, length-map, List·getD-map}
+use lib.Seq.{ext-getD}
+use Rattle.surface.specs.Lists.{listOf, firstNot}
+use Rattle.surface.specs.Plot.{isSide, isHeight}
+use Rattle.surface.specs.SurveyFile.{wordAt, statedCount, countFor, fileSize, signed, unsigned, bytesOf, isTenths, tenthsOf, rounded, heightsIn, filedHeights, fileOf}
+use Rattle.surface.specs.Refusals.{readVerdict, writeVerdict}
+use Rattle.surface.specs.Calls.{readAnswer, readHeights, writeFile}
+use Rattle.surface.specs.declared.Size.{Size}
+use Rattle.surface.proofs.ListOf.{length-listOf, getD-listOf}
+use Rattle.surface.proofs.FirstNot.{firstNot-all, all-firstNot}
+use Rattle.surface.proofs.SurveyFile.{length-bytesOf, wordAt-skip, wordAt-bytesOf, wordAt-filed, length-filedHeights, signed-unsigned, mag-tenfold, isTenths-tenfold, rounded-tenfold}
+use Rattle.surface.proofs.Verdicts.{Readable, Writable, read-accepted, accepted-read, write-accepted, postsIn}
+
+and-parts : (a b : Bool) → (a && b) ≡ true → (a ≡ true) × (b ≡ true)
+and-parts true b e = (refl, e)
+and-parts false b e = let z : _≡_ {A = ℕ} 0 1 = cc in absurd (omega arith)
+
+-- a plot has at most 120 times 120 posts
+pub side-high : (n : ℕ) → isSide n ≡ true → n ≤ 120
+side-high n e = leb-true n 120 (and-parts (leb 2 n) (leb n 120) e .1)
+
+pub posts-high : (rows columns : ℕ) → (isSide rows && isSide columns) ≡ true → rows * columns ≤ 14400
+posts-high rows columns e =
+    let s = and-parts (isSide rows) (isSide columns) e in
+    mul-le-mul {n₂ = 120} {m₂ = 120} (side-high rows (s .0)) (side-high columns (s .1))
+
+module _ (rows columns : ℕ) (hs : List ℤ) (file : List ℕ) (w : Writable rows columns hs file) where
+  head : List ℕ
+  head = 1 ∷ bytesOf (countFor rows columns) ++ rows ∷ columns ∷ []
+
+  -- a written file is its seven first bytes and the heights
+  parts : fileOf rows columns hs ≡ head ++ filedHeights hs
+  unfolding fileOf head bytesOf
+  parts = refl
+
+  length-head : length head ≡ 7
+  unfolding head bytesOf
+  length-head = refl
+
+  tenth : (i : ℕ) → i < length hs → signed (wordAt (fileOf rows columns hs) (7 + 4 * i)) ≡ getD hs i (pos 0) *ℤ pos 10
+  tenth i h =
+      let e : isHeight (getD hs i (pos 0)) ≡ true = firstNot-all isHeight hs (pos 0) (w .inRange) i h in
+      rw
+      (parts, wordAt-skip head (filedHeights hs) (7 + 4 * i) (4 * i) (omega (arith, length-head)), wordAt-filed hs (pos 0) i h e)
+      (signed-unsigned (getD hs i (pos 0) *ℤ pos 10) (mag-tenfold (getD hs i (pos 0)) e))
+
+  -- the filed heights are ten times the heights
+  tenths : tenthsOf (fileOf rows columns hs) (length hs) ≡ map (λ z. z *ℤ pos 10) hs
+  unfolding tenthsOf
+  tenths =
+      ext-getD
+      (pos 0)
+      _
+      _
+      (length-listOf _ (length hs) ∙ sym (length-map hs (λ z. z *ℤ pos 10)))
+      (λ i h.
+      let k : i < length hs = rw (length-listOf (λ i. signed (wordAt (fileOf rows columns hs) (7 + 4 * i))) (length hs)) at h in
+      getD-listOf _ (pos 0) (length hs) i k ∙ tenth i k ∙ sym (List·getD-map (λ z. z *ℤ pos 10) hs i (pos 0)))
+
+  stated : statedCount (fileOf rows columns hs) ≡ countFor rows columns
+  unfolding statedCount fileOf
+  stated =
+      wordAt-skip (1 ∷ []) (bytesOf (countFor rows columns) ++ rows ∷ columns ∷ filedHeights hs) 1 0 refl
+      ∙ wordAt-bytesOf (countFor rows columns) (rows ∷ columns ∷ filedHeights hs) (omega (arith, posts-high rows columns (w .sides)))
+
+  in-range : firstNot isTenths (tenthsOf (fileOf rows columns hs) (rows * columns)) ≡ rows * columns
+  in-range =
+      rw (← w .heights, tenths)
+      (all-firstNot
+      isTenths
+      (map (λ z. z *ℤ pos 10) hs)
+      (pos 0)
+      (λ i h.
+      let k : i < length hs = rw (length-map hs (λ z. z *ℤ pos 10)) at h in
+      rw (List·getD-map (λ z. z *ℤ pos 10) hs i (pos 0)) (isTenths-tenfold (getD hs i (pos 0)) (firstNot-all isHeight hs (pos 0) (w .inRange) i k)))
+      ∙ length-map hs (λ z. z *ℤ pos 10))
+
+  map-rounded : (zs : List ℤ) → map rounded (map (λ z. z *ℤ pos 10) zs) ≡ zs
+  map-rounded [] = refl
+  map-rounded (z ∷ zs) = rw (rounded-tenfold z, map-rounded zs)
+
+  read-back : heightsIn (fileOf rows columns hs) (rows * columns) ≡ hs
+  unfolding heightsIn
+  read-back = rw (← w .heights, tenths) (map-rounded hs)
+
+  pub written-readable : (out : List ℤ) → length out ≡ rows * columns → Readable (fileOf rows columns hs) out
+  unfolding fileOf bytesOf
+  written-readable out h =
+      record {
+        version = refl;
+        sides = w .sides;
+        stated = stated;
+        size = omega (arith, length-filedHeights hs, w .heights);
+        room = h;
+        tenths = in-range;
+      }
+
+-- an accepted write leaves the file of its heights
+pub written : (rows columns : ℕ) (hs : List ℤ) (file : List ℕ) → writeVerdict rows columns hs file .code ≡ 0 → writeFile rows columns hs file ≡ fileOf rows columns hs
+unfolding writeFile
+written rows columns hs file e = rw e
+
+-- "A file we write reads back to the same millimetre heights": into any list of as many heights, with the same rows and columns.
+pub round-trip :
+    (rows columns : ℕ) (hs : List ℤ) (file : List ℕ) (out : List ℤ)
+    → writeVerdict rows columns hs file .code ≡ 0
+    → length out ≡ rows * columns
+    → (readAnswer (writeFile rows columns hs file) out ≡ record { code = 0; place = 0; rows = rows; columns = columns })
+    × (readHeights (writeFile rows columns hs file) out ≡ hs)
+unfolding readAnswer readHeights fileOf bytesOf
+round-trip rows columns hs file out e h =
+    let w = write-accepted rows columns hs file e in
+    rw (written rows columns hs file e, accepted-read (fileOf rows columns hs) out (written-readable rows columns hs file w out h)) (refl, read-back rows columns hs file w)
