@@ -4,9 +4,9 @@ use native.Mathlib.Numerals.{add-one}
 use native.Mathlib.Decide.{decLt}
 use native.Mathlib.Omega.{arith}
 use mathlib.Core.Path.{_≡_, refl, sym, _∙_, ap}
-use mathlib.Core.List.{List, [], _∷_, _++_, map, map-append}
+use mathlib.Core.List.{List, [], _∷_, _++_, map, map-append, append-nil}
 use lib.ListN.{length, getD, drop, set, length-append, length-drop, List·getD-append}
-use lib.Seq.{drop-cons, append-snoc, set-at, getD-at}
+use lib.Seq.{drop-cons, drop-length, append-snoc, set-at, getD-at}
 use Rattle.surface.specs.Lists.{listOf}
 
 module _ {A : Type 0} (f : ℕ → A) where
@@ -26,19 +26,28 @@ module _ {A : Type 0} (f : ℕ → A) where
           let last : i ≡ n = omega arith in
           getD-at (listOf f n) (f n) [] d i (length-listOf n ∙ sym last) ∙ ap f (sym last)
 
-  pub listOf-drop : (l : List A) → l ≡ listOf f 0 ++ drop 0 l
-  unfolding listOf
-  listOf-drop l = refl
+  -- a list l that a loop fills from the front, after i turns
+  abbrev pub Filled : List A → ℕ → List A → Type 0
+  Filled l i l′ = l′ ≡ listOf f i ++ drop i l
 
-  -- a turn of the loop: element i is stored
-  pub set-listOf : (l : List A) (i : ℕ) → i < length l → set (listOf f i ++ drop i l) i (f i) ≡ listOf f (i + 1) ++ drop (i + 1) l
+  pub filled-none : (l : List A) → Filled l 0 l
+  unfolding listOf
+  filled-none l = refl
+
+  set-listOf : (l : List A) (i : ℕ) → i < length l → set (listOf f i ++ drop i l) i (f i) ≡ listOf f (i + 1) ++ drop (i + 1) l
   unfolding listOf
   set-listOf l i h =
       rw (add-one, drop-cons l i (f i) h)
       (set-at (listOf f i) (getD l i (f i)) (drop (suc i) l) (f i) i (length-listOf i) ∙ sym (append-snoc (listOf f i) (f i) (drop (suc i) l)))
 
-  pub length-filled : (l : List A) (i : ℕ) → i ≤ length l → length (listOf f i ++ drop i l) ≡ length l
-  length-filled l i h = simp (length-append, length-drop, length-listOf) (omega arith)
+  pub filled-more : (l : List A) (i : ℕ) (l′ : List A) (x : A) → i < length l → Filled l i l′ → x ≡ f i → Filled l (i + 1) (set l′ i x)
+  filled-more l i l′ x h e v = rw (e, v) (set-listOf l i h)
+
+  pub filled-length : (l : List A) (i : ℕ) (l′ : List A) → i ≤ length l → Filled l i l′ → length l′ ≡ length l
+  filled-length l i l′ h e = rw e (simp (length-append, length-drop, length-listOf) (omega arith))
+
+  pub filled-all : (l : List A) (i : ℕ) (l′ : List A) → i ≡ length l → Filled l i l′ → l′ ≡ listOf f (length l)
+  filled-all l i l′ h e = rw (e, h, drop-length l) (append-nil (listOf f (length l)))
 
 pub map-listOf : {A B : Type 0} (g : A → B) (f : ℕ → A) (n : ℕ) → map g (listOf f n) ≡ listOf (λ i. g (f i)) n
 unfolding listOf

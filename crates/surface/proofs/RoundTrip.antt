@@ -1,38 +1,22 @@
 -- Document 01, "Survey file": a file that is written reads back to the same heights, and a file that is read has exactly its size.
 use Prim.Native.Nat.{ℕ, zero, suc, _+_, _*_, _<_, _≤_}
-use native.Mathlib.Nat.{mul-le-mul}
 use native.Mathlib.Omega.{arith}
 use mathlib.Core.Path.{_≡_, refl, sym, _∙_, ap}
 use mathlib.Core.Bool.{Bool, true, false, cond, not, _&&_}
 use mathlib.Core.List.{List, [], _∷_, _++_, map, map-map}
-use borrow.Author.Tests.{eq-eqb, leb-true}
-use lib.Dec.{leb}
 use lib.IntN.{ℤ, pos, _*ℤ_}
 use lib.ListN.{length, getD, length-append, length-map, List·getD-map}
 use lib.Seq.{ext-getD}
 use Rattle.surface.specs.Lists.{listOf, firstNot}
 use Rattle.surface.specs.Plot.{isSide, isHeight}
 use Rattle.surface.specs.SurveyFile.{wordAt, statedCount, countFor, fileSize, signed, unsigned, bytesOf, isTenths, tenthsOf, rounded, heightsIn, filedHeights, fileOf}
-use Rattle.surface.specs.Refusals.{readVerdict, writeVerdict}
+use Rattle.surface.specs.Refusals.{Verdict, readVerdict, writeVerdict}
 use Rattle.surface.specs.Calls.{readAnswer, readHeights, writeFile}
 use Rattle.surface.specs.declared.Size.{Size}
-use Rattle.surface.proofs.ListOf.{length-listOf, getD-listOf}
+use Rattle.surface.proofs.FileCalls.{read-code, read-served, read-filled, write-filled}
 use Rattle.surface.proofs.FirstNot.{firstNot-all, all-firstNot}
-use Rattle.surface.proofs.SurveyFile.{length-bytesOf, wordAt-skip, wordAt-bytesOf, wordAt-filed, length-filedHeights, signed-unsigned, mag-tenfold, isTenths-tenfold, rounded-tenfold}
-use Rattle.surface.proofs.Verdicts.{Readable, Writable, read-accepted, accepted-read, write-accepted, postsIn}
-
-and-parts : (a b : Bool) → (a && b) ≡ true → (a ≡ true) × (b ≡ true)
-and-parts true b e = (refl, e)
-and-parts false b e = let z : _≡_ {A = ℕ} 0 1 = cc in absurd (omega arith)
-
--- a plot has at most 120 times 120 posts
-pub side-high : (n : ℕ) → isSide n ≡ true → n ≤ 120
-side-high n e = leb-true n 120 (and-parts (leb 2 n) (leb n 120) e .1)
-
-pub posts-high : (rows columns : ℕ) → (isSide rows && isSide columns) ≡ true → rows * columns ≤ 14400
-posts-high rows columns e =
-    let s = and-parts (isSide rows) (isSide columns) e in
-    mul-le-mul {n₂ = 120} {m₂ = 120} (side-high rows (s .0)) (side-high columns (s .1))
+use Rattle.surface.proofs.SurveyFile.{length-tenthsOf, getD-tenthsOf, wordAt-skip, wordAt-bytesOf, wordAt-filed, length-filedHeights, signed-unsigned, mag-tenfold, isTenths-tenfold, rounded-tenfold}
+use Rattle.surface.proofs.Verdicts.{Readable, Writable, read-accepted, accepted-read, write-accepted, posts-low}
 
 module _ (rows columns : ℕ) (hs : List ℤ) (file : List ℕ) (w : Writable rows columns hs file) where
   head : List ℕ
@@ -56,22 +40,21 @@ module _ (rows columns : ℕ) (hs : List ℤ) (file : List ℕ) (w : Writable ro
 
   -- the filed heights are ten times the heights
   tenths : tenthsOf (fileOf rows columns hs) (length hs) ≡ map (λ z. z *ℤ pos 10) hs
-  unfolding tenthsOf
   tenths =
       ext-getD
       (pos 0)
       _
       _
-      (length-listOf _ (length hs) ∙ sym (length-map hs (λ z. z *ℤ pos 10)))
+      (length-tenthsOf (fileOf rows columns hs) (length hs) ∙ sym (length-map hs (λ z. z *ℤ pos 10)))
       (λ i h.
-      let k : i < length hs = rw (length-listOf (λ i. signed (wordAt (fileOf rows columns hs) (7 + 4 * i))) (length hs)) at h in
-      getD-listOf _ (pos 0) (length hs) i k ∙ tenth i k ∙ sym (List·getD-map (λ z. z *ℤ pos 10) hs i (pos 0)))
+      let k : i < length hs = rw (length-tenthsOf (fileOf rows columns hs) (length hs)) at h in
+      getD-tenthsOf (fileOf rows columns hs) (length hs) i k ∙ tenth i k ∙ sym (List·getD-map (λ z. z *ℤ pos 10) hs i (pos 0)))
 
   stated : statedCount (fileOf rows columns hs) ≡ countFor rows columns
   unfolding statedCount fileOf
   stated =
       wordAt-skip (1 ∷ []) (bytesOf (countFor rows columns) ++ rows ∷ columns ∷ filedHeights hs) 1 0 refl
-      ∙ wordAt-bytesOf (countFor rows columns) (rows ∷ columns ∷ filedHeights hs) (omega (arith, posts-high rows columns (w .sides)))
+      ∙ wordAt-bytesOf (countFor rows columns) (rows ∷ columns ∷ filedHeights hs) (omega (arith, posts-low rows columns (w .sides)))
 
   in-range : firstNot isTenths (tenthsOf (fileOf rows columns hs) (rows * columns)) ≡ rows * columns
   in-range =
@@ -105,10 +88,31 @@ module _ (rows columns : ℕ) (hs : List ℤ) (file : List ℕ) (w : Writable ro
         tenths = in-range;
       }
 
--- an accepted write leaves the file of its heights
-pub written : (rows columns : ℕ) (hs : List ℤ) (file : List ℕ) → writeVerdict rows columns hs file .code ≡ 0 → writeFile rows columns hs file ≡ fileOf rows columns hs
-unfolding writeFile
-written rows columns hs file e = rw e
+-- "The count is 2 + 4 times rows times columns": every file that reading accepts is exactly as long as its rows and columns say.
+pub read-size : (file : List ℕ) (out : List ℤ) → readAnswer file out .code ≡ 0 → length file ≡ fileSize (readAnswer file out .rows) (readAnswer file out .columns)
+read-size file out e =
+    let v = sym (read-code file out) ∙ e in
+    rw (read-served file out v) (read-accepted file out v .size)
+
+-- What reading answers and fills in hangs on the file and the number of heights, and not on what the list held before.
+same-verdict : (file : List ℕ) (out old : List ℤ) → length out ≡ length old → readVerdict file out ≡ readVerdict file old
+unfolding readVerdict
+same-verdict file out old e = rw e
+
+pub read-fresh :
+    (file : List ℕ) (out old : List ℤ)
+    → length out ≡ length old
+    → (readAnswer file out ≡ readAnswer file old) × (readAnswer file out .code ≡ 0 → readHeights file out ≡ readHeights file old)
+read-fresh file out old e = (answers, heights)
+  where
+    answers : readAnswer file out ≡ readAnswer file old
+    answers = unfold readAnswer in rw (same-verdict file out old e)
+
+    heights : readAnswer file out .code ≡ 0 → readHeights file out ≡ readHeights file old
+    heights c =
+        let v = sym (read-code file out) ∙ c in
+        let u : readVerdict file old .code ≡ 0 = rw (same-verdict file out old e) at v in
+        read-filled file out v ∙ ap (heightsIn file) e ∙ sym (read-filled file old u)
 
 -- "A file we write reads back to the same millimetre heights": into any list of as many heights, with the same rows and columns.
 pub round-trip :
@@ -117,7 +121,9 @@ pub round-trip :
     → length out ≡ rows * columns
     → (readAnswer (writeFile rows columns hs file) out ≡ record { code = 0; place = 0; rows = rows; columns = columns })
     × (readHeights (writeFile rows columns hs file) out ≡ hs)
-unfolding readAnswer readHeights fileOf bytesOf
+unfolding fileOf bytesOf
 round-trip rows columns hs file out e h =
     let w = write-accepted rows columns hs file e in
-    rw (written rows columns hs file e, accepted-read (fileOf rows columns hs) out (written-readable rows columns hs file w out h)) (refl, read-back rows columns hs file w)
+    let r = accepted-read (fileOf rows columns hs) out (written-readable rows columns hs file w out h) in
+    rw (write-filled rows columns hs file e, read-served (fileOf rows columns hs) out (ap (λ v. v .code) r), read-filled (fileOf rows columns hs) out (ap (λ v. v .code) r), h)
+    (refl, read-back rows columns hs file w)

@@ -1,6 +1,7 @@
 -- The parts of a survey file: words and their bytes, filed heights, rounding.
 use Prim.Native.Nat.{ℕ, zero, suc, _+_, _-_, _*_, _/_, _%_, _<_, _≤_}
 use native.Mathlib.Nat.{div-div-eq-div-mul}
+use native.Mathlib.Numerals.{add-one}
 use native.Mathlib.Omega.{arith}
 use mathlib.Core.Path.{_≡_, refl, sym, _∙_, ap}
 use mathlib.Core.Bool.{Bool, true, false, cond, not, _&&_}
@@ -14,6 +15,7 @@ use lib.Seq.{getD-append-add, take-suc}
 use Rattle.surface.specs.Lists.{listOf}
 use Rattle.surface.specs.Plot.{isHeight}
 use Rattle.surface.specs.SurveyFile.{wordAt, signed, unsigned, bytesOf, isTenths, tenthsOf, rounded, filedHeights, heightsIn}
+use Rattle.surface.proofs.ListOf.{length-listOf, getD-listOf, map-listOf}
 
 -- ---- words
 
@@ -89,6 +91,21 @@ pub mag-tenfold : (z : ℤ) → isHeight z ≡ true → mag (z *ℤ pos 10) < 21
 mag-tenfold (pos n) e = omega (arith, ltb-false 1000000 n (not-true _ e))
 mag-tenfold (negsuc n) e = rw (tenfold-negsuc n) (omega (arith, ltb-false 999999 n (not-true _ (and-left _ _ e))))
 
+-- ---- what is read
+
+module _ (file : List ℕ) (n : ℕ) where
+  pub length-tenthsOf : length (tenthsOf file n) ≡ n
+  unfolding tenthsOf
+  length-tenthsOf = length-listOf _ n
+
+  pub getD-tenthsOf : (i : ℕ) → i < n → getD (tenthsOf file n) i (pos 0) ≡ signed (wordAt file (7 + 4 * i))
+  unfolding tenthsOf
+  getD-tenthsOf i h = getD-listOf _ (pos 0) n i h
+
+  pub heightsIn-is : heightsIn file n ≡ listOf (λ i. rounded (signed (wordAt file (7 + 4 * i)))) n
+  unfolding heightsIn tenthsOf
+  heightsIn-is = map-listOf rounded _ n
+
 -- ---- filed heights
 
 pub length-filedHeights : (hs : List ℤ) → length (filedHeights hs) ≡ 4 * length hs
@@ -110,3 +127,8 @@ wordAt-filed (z ∷ hs) d zero h e = wordAt-bytesOf (unsigned (z *ℤ pos 10)) (
 wordAt-filed (z ∷ hs) d (suc i) h e =
     wordAt-skip (bytesOf (unsigned (z *ℤ pos 10))) (filedHeights hs) (4 * suc i) (4 * i) (omega (arith, length-bytesOf (unsigned (z *ℤ pos 10))))
     ∙ wordAt-filed hs d i (omega arith) e
+
+pub filedHeights-take :
+    (hs : List ℤ) (i : ℕ) → i < length hs
+    → filedHeights (take (i + 1) hs) ≡ filedHeights (take i hs) ++ bytesOf (unsigned (getD hs i (pos 0) *ℤ pos 10))
+filedHeights-take hs i h = rw (add-one, take-suc hs i (pos 0) h) (filedHeights-snoc (take i hs) (getD hs i (pos 0)))

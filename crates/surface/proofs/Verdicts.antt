@@ -1,19 +1,20 @@
 -- What acceptance says: a call is accepted where no row of its table holds, and only there.
 use Prim.Native.Nat.{ℕ, _+_, _*_, _-_, _<_, _≤_}
+use native.Mathlib.Nat.{mul-le-mul}
 use native.Mathlib.Omega.{arith}
 use mathlib.Core.Path.{_≡_, refl, _∙_, sym, ap}
 use mathlib.Core.Bool.{Bool, true, false, cond, not, _&&_, _||_}
 use mathlib.Core.List.{List, [], _∷_}
-use borrow.Author.Tests.{ltb-false, eqb-true, eq-eqb, le-ltb, not-false}
-use lib.Dec.{T, ltb, eqb, ltb→lt}
+use borrow.Author.Tests.{leb-true, ltb-false, eqb-true, eq-eqb, le-ltb, not-false}
+use lib.Dec.{T, leb, ltb, eqb, ltb→lt}
 use lib.IntN.{ℤ}
 use lib.ListN.{length, getD}
 use Rattle.surface.specs.Lists.{firstNot}
 use Rattle.surface.specs.Plot.{isSide, isHeight}
 use Rattle.surface.specs.SurveyFile.{statedCount, countFor, fileSize, isTenths, tenthsOf}
 use Rattle.surface.specs.Refusals.{Row, Verdict, verdict, isNot, readVerdict, writeVerdict}
-use Rattle.surface.proofs.ListOf.{length-listOf}
 use Rattle.surface.proofs.FirstNot.{firstNot-le}
+use Rattle.surface.proofs.SurveyFile.{length-tenthsOf}
 
 -- no row holds
 abbrev pub Clear : List Row → Type 0
@@ -59,6 +60,24 @@ same m n e = ap not (eq-eqb m n e)
 none : (isIn : ℤ → Bool) (zs : List ℤ) → ltb (firstNot isIn zs) (length zs) ≡ false → firstNot isIn zs ≡ length zs
 none isIn zs e = omega (arith, firstNot-le isIn zs, ltb-false (firstNot isIn zs) (length zs) e)
 
+and-true : (a b : Bool) → (a && b) ≡ true → (a ≡ true) × (b ≡ true)
+and-true true b e = (refl, e)
+and-true false b e = let z : _≡_ {A = ℕ} 0 1 = cc in absurd (omega arith)
+
+-- a plot has at most 120 rows, 120 columns and 14,400 posts
+side-low : (n : ℕ) → isSide n ≡ true → n ≤ 120
+side-low n e = leb-true n 120 (and-true (leb 2 n) (leb n 120) e .1)
+
+pub sides-low : (rows columns : ℕ) → (isSide rows && isSide columns) ≡ true → (rows ≤ 120) × (columns ≤ 120)
+sides-low rows columns e =
+    let s = and-true (isSide rows) (isSide columns) e in
+    (side-low rows (s .0), side-low columns (s .1))
+
+pub posts-low : (rows columns : ℕ) → (isSide rows && isSide columns) ≡ true → rows * columns ≤ 14400
+posts-low rows columns e =
+    let s = sides-low rows columns e in
+    mul-le-mul {n₂ = 120} {m₂ = 120} (s .0) (s .1)
+
 -- the bytes of rows and of columns, and the posts that they say
 abbrev pub rowsIn : List ℕ → ℕ
 rowsIn file = getD file 5 0
@@ -79,10 +98,6 @@ pub record Readable (file : List ℕ) (hs : List ℤ) : Type 0 where
   pub tenths : firstNot isTenths (tenthsOf file (postsIn file)) ≡ postsIn file
 
 module _ (file : List ℕ) (hs : List ℤ) where
-  length-tenths : length (tenthsOf file (postsIn file)) ≡ postsIn file
-  unfolding tenthsOf
-  length-tenths = length-listOf _ (postsIn file)
-
   pub read-accepted : readVerdict file hs .code ≡ 0 → Readable file hs
   unfolding readVerdict
   read-accepted e =
@@ -97,7 +112,7 @@ module _ (file : List ℕ) (hs : List ℤ) where
         stated = stated;
         size = omega arith;
         room = equal _ _ (c .1 .1 .1 .1 .0);
-        tenths = none isTenths (tenthsOf file (postsIn file)) (c .1 .1 .1 .1 .1 .0) ∙ length-tenths;
+        tenths = none isTenths (tenthsOf file (postsIn file)) (c .1 .1 .1 .1 .1 .0) ∙ length-tenthsOf file (postsIn file);
       }
 
   pub accepted-read : Readable file hs → readVerdict file hs ≡ record { code = 0; place = 0 }
@@ -116,7 +131,7 @@ module _ (file : List ℕ) (hs : List ℤ) where
               (
                 same (length hs) (postsIn file) (r .room),
                 (
-                  le-ltb _ (length (tenthsOf file (postsIn file))) (omega (arith, length-tenths, r .tenths)),
+                  le-ltb _ (length (tenthsOf file (postsIn file))) (omega (arith, length-tenthsOf file (postsIn file), r .tenths)),
                   tt,
                 ),
               ),
