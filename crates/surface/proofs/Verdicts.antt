@@ -16,6 +16,20 @@ use Rattle.surface.specs.Refusals.{Row, Verdict, verdict, isNot, readVer
 use Rattle.surface.proofs.FirstNot.{firstNot-le}
 use Rattle.surface.proofs.SurveyFile.{length-tenthsOf}
 
+-- the upper row wins
+module _ (r : Row) (rs : List Row) where
+  pub row-holds : r .holds ≡ true → verdict (r ∷ rs) ≡ record { code = r .code; place = r .place }
+  unfolding verdict
+  row-holds e = rw e
+
+  pub row-passed : r .holds ≡ false → verdict (r ∷ rs) ≡ verdict rs
+  unfolding verdict
+  row-passed e = rw e
+
+pub none-left : verdict [] ≡ record { code = 0; place = 0 }
+unfolding verdict
+none-left = refl
+
 -- no row holds
 abbrev pub Clear : List Row → Type 0
 Clear [] = Unit {0}

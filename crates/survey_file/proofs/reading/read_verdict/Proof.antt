@@ -1,196 +1,171 @@
--- `survey_file::reading::read_verdict` meets its contract: at each return the tests on the way say which rows of the table hold.
-use Prim.Native.Nat.{ℕ, _+_, _*_, _≤_, _<_}
-use mathlib.Core.Path.{_≡_, refl, sym, _∙_, ap}
-use mathlib.Core.Bool.{true, false, _&&_}
+-- `survey_file::reading::read_verdict` meets its contract: at each return the tests on the way say which row of the table is the first that holds.
+use Prim.Native.Nat.{ℕ, _*_, _-_, _≤_, _<_}
+use mathlib.Core.Path.{_≡_, sym, _∙_, ap, ap₂}
+use mathlib.Core.Bool.{true, false, not, _&&_}
+use mathlib.Core.List.{List, [], _∷_}
 use native.Mathlib.Omega.{arith}
+use borrow.Author.Needs.{needs}
 use borrow.Author.Tests.{not-true, not-false, eq-eqb, ne-eqb, lt-ltb, le-ltb}
-use lib.ListN.{length, getD}
+use lib.Dec.{eqb}
+use lib.IntN.{ℤ}
+use lib.ListN.{length, getD, drop}
 use Rattle.surface.specs.Lists.{firstNot}
 use Rattle.surface.specs.Plot.{isSide}
-use Rattle.surface.specs.SurveyFile.{statedCount, tenthsOf, isTenths}
-use Rattle.surface.specs.Refusals.{verdict, readVerdict}
+use Rattle.surface.specs.SurveyFile.{statedCount, countFor, tenthsOf, isTenths}
+use Rattle.surface.specs.Refusals.{Row, verdict, row1, row3, row4, row10, row11, row12, readVerdict}
+use Rattle.surface.specs.Calls.{answer}
 use Rattle.surface.proofs.SurveyFile.{length-tenthsOf}
-use Rattle.surface.proofs.Verdicts.{posts-low}
-use borrow.Author.Needs.{needs}
+use Rattle.surface.proofs.Verdicts.{rowsIn, columnsIn, postsIn, posts-low, row-holds, row-passed, none-left}
 use Rattle.survey_file.proofs.reading.read_verdict.Statement.{statement}
 use Rattle.survey_file.proofs.reading.read_verdict.Tie as tie
-use Rattle.survey_file.proofs.reading.read_verdict.Reads as reads
-use Rattle.survey_file.proofs.reading.read_verdict.Lts as lts
-use Rattle.plot.proofs.limits.is_plot.Reads as is-plot-reads
-use Rattle.survey_file.proofs.tenths.first_out.Reads as first-out-reads
-use Rattle.survey_file.proofs.words.wide.Reads as wide-reads
-use Rattle.survey_file.proofs.words.word_at.Reads as word-at-reads
 
--- src/reading.rt:21:9
-plot : (c : tie.Else3) → (isSide (c .before .before .before .before .wide .result) && isSide (c .before .before .wide2 .result)) ≡ true
-plot c = sym (c .before .is-plot .ensures) ∙ not-false _ (c .if3 .left)
+-- the rows that reading goes by
+abbrev rows : List ℕ → List ℤ → List Row
+rows file hs =
+    row10 file
+    ∷ row11 file
+    ∷ row1 (rowsIn file) (columnsIn file)
+    ∷ row12 file (rowsIn file) (columnsIn file)
+    ∷ row3 (rowsIn file) (columnsIn file) hs (postsIn file)
+    ∷ row4 (rowsIn file) (columnsIn file) isTenths (tenthsOf file (postsIn file))
+    ∷ []
+
+-- n of them do not hold
+abbrev Passed : tie.Start → ℕ → Type 0
+Passed s n = readVerdict (s .args .file .now) (s .args .heights .now) ≡ verdict (drop n (rows (s .args .file .now) (s .args .heights .now)))
+
+passed1 : (c : tie.Else1) → Passed (c .before .before) 1
+unfolding readVerdict
+passed1 c = row-passed _ _ (le-ltb _ _ (c .if1 .left))
+
+passed2 : (c : tie.Else2) → Passed (c .before .before .before .before) 2
+passed2 c = passed1 (c .before .before) ∙ row-passed _ _ (ap not (eq-eqb _ _ (c .if2 .left)))
+
+-- the sides are bytes 5 and 6, seen from where both are read
+abbrev F : tie.After-wide2 → List ℕ
+F c = c .before .before .before .before .before .before .before .before .args .file .now
+
+product : (c : tie.After-wide2) → c .before .before .wide .result * c .wide2 .result ≡ postsIn (F c)
+product c = ap₂ _*_ (c .before .before .wide .ensures .0) (c .wide2 .ensures .0)
+
+sides : (c : tie.After-is-plot) → c .is-plot .result ≡ (isSide (rowsIn (F (c .before))) && isSide (columnsIn (F (c .before))))
+sides c = rw (c .before .before .before .wide .ensures .0, c .before .wide2 .ensures .0) at (c .is-plot .ensures)
 
 posts : (c : tie.Else3) → c .before .before .before .before .wide .result * c .before .before .wide2 .result ≤ 14400
-posts c = posts-low (c .before .before .before .before .wide .result) (c .before .before .wide2 .result) (plot c)
+posts c =
+    let file = F (c .before .before) in
+    rw (product (c .before .before)) (posts-low (rowsIn file) (columnsIn file) (sym (sides (c .before)) ∙ not-false _ (c .if3 .left)))
+
+passed3 : (c : tie.Else3) → Passed (c .before .before .before .before .before .before .before .before .before .before) 3
+passed3 c = passed2 (c .before .before .before .before .before .before) ∙ row-passed _ _ (ap not (sym (sides (c .before)) ∙ not-false _ (c .if3 .left)))
+
+-- the stated count
+stated : (c : tie.After-word-at) → c .word-at .result ≡ statedCount (F (c .before .before .before))
+unfolding statedCount
+stated c = c .word-at .ensures
+
+present : (c : tie.Else4) → eqb (statedCount (F (c .before .before .before .before))) (length (F (c .before .before .before .before)) - 5) ≡ true
+present c = eq-eqb _ _ (sym (stated (c .before)) ∙ c .if4 .left)
+
+passed4 : (c : tie.Else5) → Passed (c .before .before .before .before .before .before .before .before .before .before .before .before .before) 4
+passed4 c =
+    let file = F (c .before .before .before .before .before) in
+    let count : statedCount file ≡ countFor (rowsIn file) (columnsIn file) = omega (arith, stated (c .before .before), c .if5 .left, product (c .before .before .before .before .before)) in
+    passed3 (c .before .before .before) ∙ row-passed _ _ (rw (present (c .before)) (ap not (eq-eqb _ _ count)))
+
+passed5 : (c : tie.Else6) → Passed (c .before .before .before .before .before .before .before .before .before .before .before .before .before .before) 5
+passed5 c = passed4 (c .before) ∙ row-passed _ _ (ap not (eq-eqb _ _ (c .if6 .left ∙ product (c .before .before .before .before .before .before))))
+
+-- the filed heights, and the first that is out of range
+abbrev tenths : tie.After-first-out → List ℤ
+tenths c = tenthsOf (F (c .before .before .before .before .before .before .before)) (postsIn (F (c .before .before .before .before .before .before .before)))
+
+out : (c : tie.After-first-out) → c .first-out .result ≡ firstNot isTenths (tenths c)
+out c = c .first-out .ensures ∙ ap (λ (n : ℕ). firstNot isTenths (tenthsOf (F (c .before .before .before .before .before .before .before)) n)) (product (c .before .before .before .before .before .before .before))
+
+many : (c : tie.After-first-out) → c .before .before .before .before .before .before .before .before .before .wide .result * c .before .before .before .before .before .before .before .wide2 .result ≡ length (tenths c)
+many c = product (c .before .before .before .before .before .before .before) ∙ sym (length-tenthsOf (F (c .before .before .before .before .before .before .before)) (postsIn (F (c .before .before .before .before .before .before .before))))
 
 returns : tie.Need-returns
-unfolding readVerdict verdict
-returns c = rw (lt-ltb _ _ (c .if1 .taken))
+unfolding readVerdict
+returns c = sym (ap answer (row-holds _ _ (lt-ltb _ _ (c .if1 .taken))))
 
--- src/reading.rt:23:8
 shared-slice-read-if2 : tie.Need-shared-slice-read-if2
 shared-slice-read-if2 c = search needs
 
--- src/reading.rt:24:9
 returns-2 : tie.Need-returns-2
-unfolding readVerdict verdict
-returns-2 c = rw (le-ltb _ _ (c .before .before .if1 .left), ne-eqb _ _ (c .if2 .taken))
+returns-2 c = sym (ap answer (passed1 (c .before .before) ∙ row-holds _ _ (ap not (ne-eqb _ _ (c .if2 .taken)))))
 
--- src/reading.rt:26:21
 shared-slice-read-wide : tie.Need-shared-slice-read-wide
 shared-slice-read-wide c = search needs
 
--- src/reading.rt:26:9
 wide-requires : tie.Need-wide-requires
 wide-requires c κs = search needs
 
--- src/reading.rt:27:24
 shared-slice-read-wide-2 : tie.Need-shared-slice-read-wide-2
 shared-slice-read-wide-2 c = search needs
 
--- src/reading.rt:27:9
 wide-requires-2 : tie.Need-wide-requires-2
 wide-requires-2 c κs = search needs
 
--- src/reading.rt:28:9
 is-plot-requires : tie.Need-is-plot-requires
 is-plot-requires c κs = search needs
 
--- src/reading.rt:29:9
 returns-3 : tie.Need-returns-3
-unfolding readVerdict verdict
-returns-3 c =
-    rw (
-      le-ltb _ _ (c .before .before .before .before .before .before .before .before .if1 .left),
-      eq-eqb _ _ (c .before .before .before .before .before .before .if2 .left),
-      ← c .before .before .before .before .wide .ensures .0,
-      ← c .before .before .wide2 .ensures .0,
-      sym (c .before .is-plot .ensures) ∙ not-true _ (c .if3 .taken),
-    )
+returns-3 c = sym (ap answer (passed2 (c .before .before .before .before .before .before) ∙ row-holds _ _ (ap not (sym (sides (c .before)) ∙ not-true _ (c .if3 .taken)))))
 
--- src/reading.rt:31:18
 mul-posts : tie.Need-mul-posts
 mul-posts c = omega (arith, posts c)
 
--- src/reading.rt:31:17
 cast-posts : tie.Need-cast-posts
 cast-posts c = omega (arith, posts c)
 
--- src/reading.rt:32:18
 word-at-requires : tie.Need-word-at-requires
 word-at-requires c κs = search needs
 
--- src/reading.rt:32:18
 cast-stated : tie.Need-cast-stated
 cast-stated c = search needs
 
--- src/reading.rt:33:18
 sub-if4 : tie.Need-sub-if4
 sub-if4 c = search needs
 
--- src/reading.rt:34:9
 returns-4 : tie.Need-returns-4
-unfolding readVerdict verdict statedCount
 returns-4 c =
-    rw (
-      le-ltb _ _ (c .before .before .before .before .before .before .before .before .before .before .if1 .left),
-      eq-eqb _ _ (c .before .before .before .before .before .before .before .before .if2 .left),
-      ← c .before .before .before .before .before .before .wide .ensures .0,
-      ← c .before .before .before .before .wide2 .ensures .0,
-      plot (c .before .before),
-      ← c .before .word-at .ensures,
-      ne-eqb _ _ (c .if4 .taken),
-    )
+    let other : eqb (statedCount (F (c .before .before .before .before))) (length (F (c .before .before .before .before)) - 5) ≡ false = ne-eqb _ _ (λ e. c .if4 .taken (stated (c .before) ∙ e)) in
+    sym (ap answer (passed3 (c .before .before) ∙ row-holds _ _ (rw other)))
 
--- src/reading.rt:36:22
 mul-if5 : tie.Need-mul-if5
 mul-if5 c = omega (arith, posts (c .before .before))
 
--- src/reading.rt:36:18
 add-if5 : tie.Need-add-if5
 add-if5 c = omega (arith, posts (c .before .before))
 
--- src/reading.rt:37:9
 returns-5 : tie.Need-returns-5
-unfolding readVerdict verdict statedCount
 returns-5 c =
-    rw (
-      le-ltb _ _ (c .before .before .before .before .before .before .before .before .before .before .before .if1 .left),
-      eq-eqb _ _ (c .before .before .before .before .before .before .before .before .before .if2 .left),
-      ← c .before .before .before .before .before .before .before .wide .ensures .0,
-      ← c .before .before .before .before .before .wide2 .ensures .0,
-      plot (c .before .before .before),
-      ← c .before .before .word-at .ensures,
-      eq-eqb _ _ (c .before .if4 .left),
-      ne-eqb _ _ (c .if5 .taken),
-    )
+    let file = F (c .before .before .before .before .before) in
+    let other : statedCount file ≡ countFor (rowsIn file) (columnsIn file) → ⊥ = λ e. c .if5 .taken (omega (arith, stated (c .before .before), e, product (c .before .before .before .before .before))) in
+    sym (ap answer (passed3 (c .before .before .before) ∙ row-holds _ _ (rw (present (c .before)) (ap not (ne-eqb _ _ other)))))
 
--- src/reading.rt:40:9
 returns-6 : tie.Need-returns-6
-unfolding readVerdict verdict statedCount
-returns-6 c =
-    rw (
-      le-ltb _ _ (c .before .before .before .before .before .before .before .before .before .before .before .before .if1 .left),
-      eq-eqb _ _ (c .before .before .before .before .before .before .before .before .before .before .if2 .left),
-      ← c .before .before .before .before .before .before .before .before .wide .ensures .0,
-      ← c .before .before .before .before .before .before .wide2 .ensures .0,
-      plot (c .before .before .before .before),
-      ← c .before .before .before .word-at .ensures,
-      eq-eqb _ _ (c .before .before .if4 .left),
-      eq-eqb _ _ (c .before .if5 .left),
-      ne-eqb _ _ (c .if6 .taken),
-    )
+returns-6 c = sym (ap answer (passed4 (c .before) ∙ row-holds _ _ (ap not (ne-eqb _ _ (λ e. c .if6 .taken (e ∙ sym (product (c .before .before .before .before .before .before))))))))
 
--- src/reading.rt:42:9
 first-out-requires : tie.Need-first-out-requires
 first-out-requires c κs = search needs
 
--- src/reading.rt:46:20
 cast-t17 : tie.Need-cast-t17
 cast-t17 c = search needs
 
--- src/reading.rt:44:9
 returns-7 : tie.Need-returns-7
-unfolding readVerdict verdict statedCount
 returns-7 c =
-    rw (
-      le-ltb _ _ (c .before .before .before .before .before .before .before .before .before .before .before .before .before .before .if1 .left),
-      eq-eqb _ _ (c .before .before .before .before .before .before .before .before .before .before .before .before .if2 .left),
-      ← c .before .before .before .before .before .before .before .before .before .before .wide .ensures .0,
-      ← c .before .before .before .before .before .before .before .before .wide2 .ensures .0,
-      plot (c .before .before .before .before .before .before),
-      ← c .before .before .before .before .before .word-at .ensures,
-      eq-eqb _ _ (c .before .before .before .before .if4 .left),
-      eq-eqb _ _ (c .before .before .before .if5 .left),
-      eq-eqb _ _ (c .before .before .if6 .left),
-      length-tenthsOf,
-      ← c .before .first-out .ensures,
-      lt-ltb _ _ (c .if7 .taken),
-    )
+    let f = c .before in
+    let low : firstNot isTenths (tenths f) < length (tenths f) = omega (arith, out f, many f, c .if7 .taken) in
+    ap (λ (p : ℕ). answer (record { code = 4; place = p })) (out f) ∙ sym (ap answer (passed5 (f .before) ∙ row-holds _ _ (lt-ltb _ _ low)))
 
--- src/reading.rt:17:1
 returns-8 : tie.Need-returns-8
-unfolding readVerdict verdict statedCount
 returns-8 c =
-    rw (
-      le-ltb _ _ (c .before .before .before .before .before .before .before .before .before .before .before .before .before .before .if1 .left),
-      eq-eqb _ _ (c .before .before .before .before .before .before .before .before .before .before .before .before .if2 .left),
-      ← c .before .before .before .before .before .before .before .before .before .before .wide .ensures .0,
-      ← c .before .before .before .before .before .before .before .before .wide2 .ensures .0,
-      plot (c .before .before .before .before .before .before),
-      ← c .before .before .before .before .before .word-at .ensures,
-      eq-eqb _ _ (c .before .before .before .before .if4 .left),
-      eq-eqb _ _ (c .before .before .before .if5 .left),
-      eq-eqb _ _ (c .before .before .if6 .left),
-      length-tenthsOf,
-      ← c .before .first-out .ensures,
-      le-ltb _ _ (c .if7 .left),
-    )
+    let f = c .before in
+    let none : length (tenths f) ≤ firstNot isTenths (tenths f) = omega (arith, out f, many f, c .if7 .left) in
+    sym (ap answer (passed5 (f .before) ∙ row-passed _ _ (le-ltb _ _ none) ∙ none-left))
 
 pub read-verdict-spec : {M : Type 1} → statement M
 read-verdict-spec =
