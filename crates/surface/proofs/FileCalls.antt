@@ -1,16 +1,14 @@
 -- The outcomes of reading and of writing a file, by whether the call was accepted.
-use Prim.Native.Nat.{ℕ, _+_, _*_}
-use mathlib.Core.Path.{_≡_, refl, sym, _∙_, ap}
-use mathlib.Core.Bool.{true, false, cond}
+use Prim.Native.Nat.{ℕ}
+use mathlib.Core.Path.{_≡_, refl}
 use mathlib.Core.List.{List}
-use borrow.Author.Tests.{eq-eqb, ne-eqb}
+use borrow.Author.Tests.{ne-eqb}
 use lib.IntN.{ℤ}
-use lib.ListN.{length, getD}
+use lib.ListN.{length}
 use Rattle.surface.specs.SurveyFile.{heightsIn, fileOf}
 use Rattle.surface.specs.Refusals.{readVerdict, writeVerdict}
 use Rattle.surface.specs.Calls.{readAnswer, readHeights, writeFile}
-use Rattle.surface.specs.declared.Size.{Size}
-use Rattle.surface.proofs.Verdicts.{rowsIn, columnsIn, Readable, read-accepted, accepted-read}
+use Rattle.surface.proofs.Verdicts.{rowsIn, columnsIn, read-accepted, accepted-read}
 
 module _ (file : List ℕ) (hs : List ℤ) where
   pub read-code : readAnswer file hs .code ≡ readVerdict file hs .code

@@ -1,18 +1,17 @@
 -- Document 01, "Survey file": a file that is written reads back to the same heights, and a file that is read has exactly its size.
-use Prim.Native.Nat.{ℕ, zero, suc, _+_, _*_, _<_, _≤_}
+use Prim.Native.Nat.{ℕ, _+_, _*_, _<_}
 use native.Mathlib.Omega.{arith}
 use mathlib.Core.Path.{_≡_, refl, sym, _∙_, ap}
-use mathlib.Core.Bool.{Bool, true, false, cond, not, _&&_}
-use mathlib.Core.List.{List, [], _∷_, _++_, map, map-map}
+use mathlib.Core.Bool.{true}
+use mathlib.Core.List.{List, [], _∷_, _++_, map}
 use lib.IntN.{ℤ, pos, _*ℤ_}
-use lib.ListN.{length, getD, length-append, length-map, List·getD-map}
+use lib.ListN.{length, getD, length-map, List·getD-map}
 use lib.Seq.{ext-getD}
-use Rattle.surface.specs.Lists.{listOf, firstNot}
-use Rattle.surface.specs.Plot.{isSide, isHeight}
-use Rattle.surface.specs.SurveyFile.{wordAt, statedCount, countFor, fileSize, signed, unsigned, bytesOf, isTenths, tenthsOf, rounded, heightsIn, filedHeights, fileOf}
-use Rattle.surface.specs.Refusals.{Verdict, readVerdict, writeVerdict}
+use Rattle.surface.specs.Lists.{firstNot}
+use Rattle.surface.specs.Plot.{isHeight}
+use Rattle.surface.specs.SurveyFile.{wordAt, statedCount, countFor, fileSize, signed, bytesOf, isTenths, tenthsOf, rounded, heightsIn, filedHeights, fileOf}
+use Rattle.surface.specs.Refusals.{readVerdict, writeVerdict}
 use Rattle.surface.specs.Calls.{readAnswer, readHeights, writeFile}
-use Rattle.surface.specs.declared.Size.{Size}
 use Rattle.surface.proofs.FileCalls.{read-code, read-served, read-filled, write-filled}
 use Rattle.surface.proofs.FirstNot.{firstNot-all, all-firstNot}
 use Rattle.surface.proofs.SurveyFile.{length-tenthsOf, getD-tenthsOf, wordAt-skip, wordAt-bytesOf, wordAt-filed, length-filedHeights, signed-unsigned, mag-tenfold, isTenths-tenfold, rounded-tenfold}

@@ -1,16 +1,15 @@
 -- The parts of a survey file: words and their bytes, filed heights, rounding.
-use Prim.Native.Nat.{ℕ, zero, suc, _+_, _-_, _*_, _/_, _%_, _<_, _≤_}
+use Prim.Native.Nat.{ℕ, zero, suc, _+_, _-_, _*_, _/_, _%_, _<_}
 use native.Mathlib.Nat.{div-div-eq-div-mul}
 use native.Mathlib.Numerals.{add-one}
 use native.Mathlib.Omega.{arith}
 use mathlib.Core.Path.{_≡_, refl, sym, _∙_, ap}
-use mathlib.Core.Bool.{Bool, true, false, cond, not, _&&_}
+use mathlib.Core.Bool.{Bool, true, false, not, _&&_}
 use mathlib.Core.List.{List, [], _∷_, _++_, append-assoc, append-nil}
-use borrow.Author.Tests.{ltb-true, ltb-false, lt-ltb, le-ltb, not-true}
-use lib.Dec.{ltb}
-use lib.IntN.{ℤ, pos, negsuc, negℤ, _*ℤ_}
-use lib.Signed.{mag, ltZ}
-use lib.ListN.{length, getD, take, drop, length-append}
+use borrow.Author.Tests.{ltb-false, lt-ltb, le-ltb, not-true}
+use lib.IntN.{ℤ, pos, negsuc, _*ℤ_}
+use lib.Signed.{mag}
+use lib.ListN.{length, getD, take, length-append}
 use lib.Seq.{getD-append-add, take-suc}
 use Rattle.surface.specs.Lists.{listOf}
 use Rattle.surface.specs.Plot.{isHeight}

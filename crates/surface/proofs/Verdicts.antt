@@ -1,8 +1,8 @@
 -- What acceptance says: a call is accepted where no row of its table holds, and only there.
-use Prim.Native.Nat.{ℕ, _+_, _*_, _-_, _<_, _≤_}
+use Prim.Native.Nat.{ℕ, _*_, _-_, _<_, _≤_}
 use native.Mathlib.Nat.{mul-le-mul}
 use native.Mathlib.Omega.{arith}
-use mathlib.Core.Path.{_≡_, refl, _∙_, sym, ap}
+use mathlib.Core.Path.{_≡_, refl, _∙_, ap}
 use mathlib.Core.Bool.{Bool, true, false, cond, not, _&&_, _||_}
 use mathlib.Core.List.{List, [], _∷_}
 use borrow.Author.Tests.{leb-true, ltb-false, eqb-true, eq-eqb, le-ltb, not-false}
@@ -12,7 +12,7 @@ use lib.ListN.{length, getD}
 use Rattle.surface.specs.Lists.{firstNot}
 use Rattle.surface.specs.Plot.{isSide, isHeight}
 use Rattle.surface.specs.SurveyFile.{statedCount, countFor, fileSize, isTenths, tenthsOf}
-use Rattle.surface.specs.Refusals.{Row, Verdict, verdict, isNot, readVerdict, writeVerdict}
+use Rattle.surface.specs.Refusals.{Row, verdict, readVerdict, writeVerdict}
 use Rattle.surface.proofs.FirstNot.{firstNot-le}
 use Rattle.surface.proofs.SurveyFile.{length-tenthsOf}
 

@@ -1,16 +1,15 @@
 -- Signed 32-bit numbers: their bits, and rounding. Each law is by the two signs; in each case the rest is arithmetic of naturals.
-use Prim.Native.Nat.{ℕ, zero, suc, _+_, _-_, _*_, _/_, _%_, _≤_, _<_}
+use Prim.Native.Nat.{ℕ, zero, suc, _+_, _-_, _/_, _%_, _≤_, _<_}
 use native.Mathlib.Omega.{arith}
 use mathlib.Core.Path.{_≡_, refl, sym, _∙_, ap}
-use mathlib.Core.Bool.{Bool, true, false, cond, _&&_}
-use borrow.Author.Tests.{ltb-true, ltb-false, leb-true, leb-false, lt-ltb, le-ltb, not-true}
+use mathlib.Core.Bool.{Bool, true, false, cond}
+use borrow.Author.Tests.{ltb-true, leb-true, leb-false, le-ltb}
 use lib.Dec.{T, ltb, leb, leb·suc-suc}
-use lib.IntN.{ℤ, pos, negsuc, negℤ, natAbs, subℕ, _+ℤ_, _-ℤ_, _*ℤ_}
+use lib.IntN.{ℤ, pos, negsuc, negℤ, natAbs, _+ℤ_, _-ℤ_}
 use lib.Signed.{mag, ltZ, leZ, nonNeg, quotZ, remZ}
 use mir.Syntax.{w32}
 use mir.Val.{toZ, sel, SFits}
 use mir.ValLaws.{toZ-pos, toZ-fits, sfits-le}
-use Rattle.surface.specs.Plot.{isHeight}
 use Rattle.surface.specs.SurveyFile.{signed, unsigned, rounded}
 
 -- -1 - m
@@ -113,15 +112,3 @@ rounded-same (negsuc n) e d =
     let low : suc n % 10 < 5 = leb-false 5 (suc n % 10) (sym (neg-down (suc n % 10)) ∙ d) in
     let same : suc n / 10 ≡ (n + 1 + 5) / 10 = omega arith in
     ap (λ (k : ℕ). negℤ (pos k)) same
-
--- ---- a height in tenths
-
-and-left : (a b : Bool) → (a && b) ≡ true → a ≡ true
-and-left true b e = refl
-and-left false b e = e
-
-pub tenfold-fits : (h : ℤ) → isHeight h ≡ true → SFits w32 (h *ℤ pos 10)
-tenfold-fits (pos n) e = record { sfits = omega (arith, ltb-false 1000000 n (not-true _ e)) }
-tenfold-fits (negsuc n) e =
-    let low : n ≤ 999999 = ltb-false 999999 n (not-true _ (and-left _ _ e)) in
-    record { sfits = omega (arith, mag-neg (suc n * 10) {n = suc n * 10} (omega arith)) }

@@ -1,10 +1,9 @@
 -- `survey_file::read_survey` meets its contract: a refusal is handed on, and what an accepted file's size says is what filling the list asks.
-use Prim.Native.Nat.{ℕ, _+_, _*_, _≤_, _<_}
-use mathlib.Core.Path.{_≡_, refl, sym, _∙_, ap}
+use Prim.Native.Nat.{ℕ}
+use mathlib.Core.Path.{_≡_, sym, _∙_, ap}
 use mathlib.Core.List.{List}
 use native.Mathlib.Omega.{arith}
 use lib.IntN.{ℤ}
-use lib.ListN.{length}
 use Rattle.surface.specs.Refusals.{readVerdict}
 use Rattle.surface.specs.declared.Answer.{Answer}
 use Rattle.surface.specs.declared.Size.{Size}
@@ -13,13 +12,7 @@ use Rattle.surface.proofs.FileCalls.{read-refused, read-kept, read-served, read
 use borrow.Author.Needs.{needs}
 use Rattle.survey_file.proofs.read_survey.Statement.{statement}
 use Rattle.survey_file.proofs.read_survey.Tie as tie
-use Rattle.survey_file.proofs.read_survey.Reads as reads
-use Rattle.survey_file.proofs.read_survey.Lts as lts
-use Rattle.survey_file.proofs.reading.read_heights.Reads as read-heights-reads
-use Rattle.survey_file.proofs.reading.read_verdict.Reads as read-verdict-reads
-use Rattle.survey_file.proofs.words.wide.Reads as wide-reads
 
--- src/lib.rt:23:9
 -- the file and the list as they were lent
 abbrev F : tie.After-read-verdict → List ℕ
 F c = c .before .before .before .args .file .now
@@ -42,42 +35,33 @@ refusal a = record { code = a .code; place = a .place; rows = 0; columns = 0 }
 read-verdict-requires : tie.Need-read-verdict-requires
 read-verdict-requires c κs = search needs
 
--- src/lib.rt:26:9
 same-length : tie.Need-same-length
 same-length c = search needs
 
--- src/lib.rt:26:9
 returns : tie.Need-returns
 returns c =
     let v = c .before in
     let refused : readVerdict (F v) (H v) .code ≡ 0 → ⊥ = λ e. c .if1 .taken (code v ∙ e) in
     (ap refusal (v .read-verdict .ensures) ∙ sym (read-refused (F v) (H v) refused), sym (read-kept (F v) (H v) refused))
 
--- src/lib.rt:33:5
 read-heights-requires : tie.Need-read-heights-requires
 read-heights-requires c κs = omega (arith, file (c .before) .size, file (c .before) .room)
 
--- src/lib.rt:37:20
 shared-slice-read-wide : tie.Need-shared-slice-read-wide
 shared-slice-read-wide c = omega (arith, file (c .before .before .before .before) .size)
 
--- src/lib.rt:37:15
 wide-requires : tie.Need-wide-requires
 wide-requires c κs = search needs
 
--- src/lib.rt:38:23
 shared-slice-read-wide-2 : tie.Need-shared-slice-read-wide-2
 shared-slice-read-wide-2 c = omega (arith, file (c .before .before .before .before .before .before) .size)
 
--- src/lib.rt:38:18
 wide-requires-2 : tie.Need-wide-requires-2
 wide-requires-2 c κs = search needs
 
--- src/lib.rt:19:1
 same-length-2 : tie.Need-same-length-2
 same-length-2 c = search needs
 
--- src/lib.rt:19:1
 returns-2 : tie.Need-returns-2
 returns-2 c =
     let a = c .before .before .before .before .before .before .before in (

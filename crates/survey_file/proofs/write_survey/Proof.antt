@@ -1,10 +1,9 @@
 -- `survey_file::write_survey` meets its contract: a refusal is handed on, and what an accepted call was given is what writing asks.
-use Prim.Native.Nat.{ℕ, _+_, _*_, _≤_, _<_}
-use mathlib.Core.Path.{_≡_, refl, sym, _∙_, ap}
+use Prim.Native.Nat.{ℕ}
+use mathlib.Core.Path.{_≡_, sym, _∙_, ap}
 use mathlib.Core.List.{List}
 use native.Mathlib.Omega.{arith}
 use lib.IntN.{ℤ}
-use lib.ListN.{length}
 use Rattle.surface.specs.Refusals.{writeVerdict}
 use Rattle.surface.specs.Calls.{writeAnswer}
 use Rattle.surface.specs.declared.Answer.{Answer}
@@ -14,13 +13,7 @@ use borrow.Author.Needs.{needs}
 use Rattle.survey_file.proofs.Stores.{whole}
 use Rattle.survey_file.proofs.write_survey.Statement.{statement}
 use Rattle.survey_file.proofs.write_survey.Tie as tie
-use Rattle.survey_file.proofs.write_survey.Reads as reads
-use Rattle.survey_file.proofs.write_survey.Lts as lts
-use Rattle.survey_file.proofs.writing.write_header.Reads as write-header-reads
-use Rattle.survey_file.proofs.writing.write_heights.Reads as write-heights-reads
-use Rattle.survey_file.proofs.writing.write_verdict.Reads as write-verdict-reads
 
--- src/lib.rt:47:9
 -- the heights and the file as they were lent
 abbrev H : tie.After-write-verdict → List ℤ
 H c = c .before .before .before .args .heights .now
@@ -43,32 +36,26 @@ plot c = write-accepted _ _ (H (c .before)) (F (c .before)) (accepted c)
 write-verdict-requires : tie.Need-write-verdict-requires
 write-verdict-requires c κs = search needs
 
--- src/lib.rt:50:9
 same-length : tie.Need-same-length
 same-length c = search needs
 
--- src/lib.rt:50:9
 returns : tie.Need-returns
 unfolding writeAnswer
 returns c =
     let v = c .before in
     (v .write-verdict .ensures, sym (write-kept _ _ (H v) (F v) (λ e. c .if1 .taken (code v ∙ e))))
 
--- src/lib.rt:52:5
 write-header-requires : tie.Need-write-header-requires
 write-header-requires c κs = (plot (c .before) .sides, omega (arith, plot (c .before) .room))
 
--- src/lib.rt:53:5
 write-heights-requires : tie.Need-write-heights-requires
 write-heights-requires c κs =
     let w = plot (c .before .before .before .before .before) in
     (omega (arith, w .heights, w .room, c .before .before .before .write-header .kept .1 .1 .0), w .inRange)
 
--- src/lib.rt:43:1
 same-length-2 : tie.Need-same-length-2
 same-length-2 c = search needs
 
--- src/lib.rt:43:1
 returns-2 : tie.Need-returns-2
 unfolding writeAnswer
 returns-2 c =

@@ -1,5 +1,5 @@
 -- `plot::limits::first_out` meets its contract. The loop's invariant: what is looked for is i further than in the heights from i on.
-use Prim.Native.Nat.{ℕ, _+_, _-_}
+use Prim.Native.Nat.{_+_, _-_}
 use mathlib.Core.Path.{_≡_, sym, _∙_}
 use mathlib.Core.List.{List}
 use native.Mathlib.Omega.{arith}

@@ -1,23 +1,18 @@
 -- `survey_file::reading::read_heights` meets its contract. The loop's invariant: the first i heights are the file's, the others are as they were.
 use Prim.Native.Nat.{ℕ, _+_, _*_, _-_, _≤_, _<_}
 use mathlib.Core.Path.{_≡_, sym, _∙_, ap}
-use mathlib.Core.List.{List, _++_}
+use mathlib.Core.List.{List}
 use native.Mathlib.Omega.{arith}
 use borrow.Author.Needs.{needs}
 use lib.IntN.{ℤ}
-use lib.ListN.{length, drop, set, length-set}
+use lib.ListN.{length}
 use mir.Syntax.{w32}
 use mir.Val.{toZ, ofZ}
-use Rattle.surface.specs.Lists.{listOf}
 use Rattle.surface.specs.SurveyFile.{wordAt, signed, rounded}
 use Rattle.surface.proofs.ListOf.{Filled, filled-none, filled-more, filled-length, filled-all}
 use Rattle.surface.proofs.SurveyFile.{heightsIn-is}
 use Rattle.survey_file.proofs.reading.read_heights.Statement.{statement}
 use Rattle.survey_file.proofs.reading.read_heights.Tie as tie
-use Rattle.survey_file.proofs.reading.read_heights.Reads as reads
-use Rattle.survey_file.proofs.reading.read_heights.Lts as lts
-use Rattle.survey_file.proofs.tenths.round.Reads as round-reads
-use Rattle.survey_file.proofs.tenths.tenths_at.Reads as tenths-at-reads
 
 -- the height that a file has at a post
 abbrev height : List ℕ → ℕ → ℤ
@@ -29,7 +24,6 @@ Inv-loop file heights₀ i₀ heights i = (i ≤ length heights₀) × Filled (h
 abbrev μ-loop : tie.MeasureT-loop
 μ-loop file heights₀ i₀ heights i = length heights₀ - i
 
--- src/reading.rt:58:5
 -- the file and the list as it was lent, seen from the loop's head
 abbrev F : tie.At-loop Inv-loop μ-loop → List ℕ
 F l = l .before .before .args .file .now
@@ -43,31 +37,24 @@ kept l = filled-length (height (F l)) (H₀ l) (l .loop .i) (l .loop .heights) (
 loop-holds : tie.Need-loop-holds Inv-loop μ-loop
 loop-holds c = (omega arith, filled-none _ _)
 
--- src/reading.rt:59:28
 tenths-at-requires : tie.Need-tenths-at-requires Inv-loop μ-loop
 tenths-at-requires c κs = omega (arith, kept (c .before))
 
--- src/reading.rt:59:22
 round-requires : tie.Need-round-requires Inv-loop μ-loop
 round-requires c κs = search needs
 
--- src/reading.rt:59:9
 mul-t4 : tie.Need-mul-t4 Inv-loop μ-loop
 mul-t4 c = search needs
 
--- src/reading.rt:59:9
 slice-set-from-heights : tie.Need-slice-set-from-heights Inv-loop μ-loop
 slice-set-from-heights c = search needs
 
--- src/reading.rt:60:9
 add-i : tie.Need-add-i Inv-loop μ-loop
 add-i c = omega (arith, kept (c .before .before .before))
 
--- src/reading.rt:58:5
 loop-less : tie.Need-loop-less Inv-loop μ-loop
 loop-less c = omega (arith, kept (c .before .before .before))
 
--- src/reading.rt:58:5
 loop-again : tie.Need-loop-again Inv-loop μ-loop
 loop-again c =
     let l = c .before .before .before in
@@ -78,11 +65,9 @@ loop-again c =
     let h : i < length (H₀ l) = omega (arith, kept l) in
     (omega arith, filled-more (height (F l)) (H₀ l) i (l .loop .heights) _ h (l .loop .inv .1) (r ∙ v))
 
--- src/reading.rt:53:1
 same-length : tie.Need-same-length Inv-loop μ-loop
 same-length c = kept (c .before)
 
--- src/reading.rt:53:1
 returns : tie.Need-returns Inv-loop μ-loop
 returns c =
     let l = c .before in

@@ -8,7 +8,7 @@ use borrow.Author.Needs.{needs}
 use borrow.Author.Tests.{not-true, not-false, eq-eqb, ne-eqb, lt-ltb, le-ltb}
 use lib.Dec.{eqb}
 use lib.IntN.{ℤ}
-use lib.ListN.{length, getD, drop}
+use lib.ListN.{length, drop}
 use Rattle.surface.specs.Lists.{firstNot}
 use Rattle.surface.specs.Plot.{isSide}
 use Rattle.surface.specs.SurveyFile.{statedCount, countFor, tenthsOf, isTenths}

@@ -1,7 +1,6 @@
 -- `survey_file::tenths::first_out` meets its contract. The loop's invariant: what is looked for is i further than in the filed heights from i on.
-use Prim.Native.Nat.{ℕ, _+_, _-_, _≤_, _<_}
+use Prim.Native.Nat.{_+_, _-_, _≤_, _<_}
 use mathlib.Core.Path.{_≡_, sym, _∙_, ap}
-use mathlib.Core.Bool.{true, false}
 use mathlib.Core.List.{List}
 use native.Mathlib.Omega.{arith}
 use borrow.Author.Needs.{needs}
@@ -16,10 +15,6 @@ use Rattle.surface.proofs.FirstNot.{firstNot-pass, firstNot-stop, firstNot-end}
 use Rattle.surface.proofs.SurveyFile.{length-tenthsOf, getD-tenthsOf}
 use Rattle.survey_file.proofs.tenths.first_out.Statement.{statement}
 use Rattle.survey_file.proofs.tenths.first_out.Tie as tie
-use Rattle.survey_file.proofs.tenths.first_out.Reads as reads
-use Rattle.survey_file.proofs.tenths.first_out.Lts as lts
-use Rattle.survey_file.proofs.tenths.is_tenths.Reads as is-tenths-reads
-use Rattle.survey_file.proofs.tenths.tenths_at.Reads as tenths-at-reads
 
 abbrev Inv-loop : tie.InvT-loop
 Inv-loop file n i₀ i = (i ≤ n) × (firstNot isTenths (tenthsOf file n) ≡ i + firstNot isTenths (drop i (tenthsOf file n)))

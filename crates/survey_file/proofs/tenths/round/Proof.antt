@@ -10,8 +10,6 @@ use Rattle.surface.specs.SurveyFile.{rounded}
 use Rattle.survey_file.proofs.Numbers.{quot-fits, rounded-fits, rounded-up, rounded-down, rounded-same}
 use Rattle.survey_file.proofs.tenths.round.Statement.{statement}
 use Rattle.survey_file.proofs.tenths.round.Tie as tie
-use Rattle.survey_file.proofs.tenths.round.Reads as reads
-use Rattle.survey_file.proofs.tenths.round.Lts as lts
 
 -- a local holds its number's bits, which are read back as the number
 module _ (c : tie.Start) where

@@ -1,3 +1,4 @@
+-- `survey_file::tenths::tenths_at` meets its contract, which joins those of its two callees.
 use mathlib.Core.Path.{_≡_, _∙_, ap}
 use mir.Syntax.{w32}
 use mir.Val.{toZ, ofZ}
@@ -5,28 +6,19 @@ use Rattle.surface.specs.SurveyFile.{signed}
 use borrow.Author.Needs.{needs}
 use Rattle.survey_file.proofs.tenths.tenths_at.Statement.{statement}
 use Rattle.survey_file.proofs.tenths.tenths_at.Tie as tie
-use Rattle.survey_file.proofs.tenths.tenths_at.Reads as reads
-use Rattle.survey_file.proofs.tenths.tenths_at.Lts as lts
-use Rattle.survey_file.proofs.words.as_signed.Reads as as-signed-reads
-use Rattle.survey_file.proofs.words.word_at.Reads as word-at-reads
 
--- src/tenths.rt:41:33
 mul-word-at : tie.Need-mul-word-at
 mul-word-at c = search needs
 
--- src/tenths.rt:41:29
 add-word-at : tie.Need-add-word-at
 add-word-at c = search needs
 
--- src/tenths.rt:41:15
 word-at-requires : tie.Need-word-at-requires
 word-at-requires c κs = search needs
 
--- src/tenths.rt:41:5
 as-signed-requires : tie.Need-as-signed-requires
 as-signed-requires c κs = search needs
 
--- src/tenths.rt:37:1
 returns : tie.Need-returns
 returns c =
     let r : toZ w32 (ofZ w32 (c .as-signed .result)) ≡ c .as-signed .result = search needs in

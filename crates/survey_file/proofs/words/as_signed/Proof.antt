@@ -1,17 +1,15 @@
-use native.Mathlib.Omega.{arith}
+-- `survey_file::words::as_signed` meets its contract, by the laws of `signed` below and from half the range on.
 use borrow.Author.Needs.{needs}
-use Prim.Native.Nat.{_-_, _<_, _≤_}
+use Prim.Native.Nat.{_-_}
 use mathlib.Core.Path.{_≡_}
 use lib.IntN.{negsuc, _-ℤ_}
 use mir.Syntax.{w32}
-use mir.Val.{toZ, SFits}
-use mir.ValLaws.{toZ-ofZ, toZ-fits}
+use mir.Val.{toZ}
+use mir.ValLaws.{toZ-ofZ}
 use Rattle.surface.specs.SurveyFile.{signed}
 use Rattle.survey_file.proofs.Numbers.{signed-is, signed-high, signed-fits}
 use Rattle.survey_file.proofs.words.as_signed.Statement.{statement}
 use Rattle.survey_file.proofs.words.as_signed.Tie as tie
-use Rattle.survey_file.proofs.words.as_signed.Reads as reads
-use Rattle.survey_file.proofs.words.as_signed.Lts as lts
 
 high : (c : tie.Else1) → negsuc 0 -ℤ toZ w32 (4294967295 - c .before .args .n) ≡ signed (c .before .args .n)
 high c = signed-high (c .before .args .n) (c .if1 .left) (c .before .fits .n .fits)
@@ -19,23 +17,18 @@ high c = signed-high (c .before .args .n) (c .if1 .left) (c .before .fits .n .fi
 cast-result : tie.Need-cast-result
 cast-result c = search needs
 
--- src/words.rt:44:16
 sub-result : tie.Need-sub-result
 sub-result c = search needs
 
--- src/words.rt:44:15
 cast-result-2 : tie.Need-cast-result-2
 cast-result-2 c = search needs
 
--- src/words.rt:44:9
 sub-result-2 : tie.Need-sub-result-2
 sub-result-2 c = rw (high c) (signed-fits (c .before .args .n) (c .before .fits .n .fits))
 
--- src/words.rt:38:1
 returns : tie.Need-returns
 returns c = signed-is (c .before .args .n)
 
--- src/words.rt:38:1
 returns-2 : tie.Need-returns-2
 returns-2 c = rw (high c) (toZ-ofZ w32 _ (signed-fits (c .before .args .n) (c .before .fits .n .fits)))
 

@@ -1,3 +1,4 @@
+-- `survey_file::words::as_unsigned` meets its contract, by the laws of `unsigned` below zero and from zero on.
 use native.Mathlib.Omega.{arith}
 use mathlib.Core.Path.{_≡_}
 use lib.IntN.{negsuc, _-ℤ_}
@@ -7,8 +8,6 @@ use mir.ValLaws.{toZ-ofZ}
 use Rattle.survey_file.proofs.Numbers.{Flipped, flipped, Kept, kept}
 use Rattle.survey_file.proofs.words.as_unsigned.Statement.{statement}
 use Rattle.survey_file.proofs.words.as_unsigned.Tie as tie
-use Rattle.survey_file.proofs.words.as_unsigned.Reads as reads
-use Rattle.survey_file.proofs.words.as_unsigned.Lts as lts
 
 bits-z : (c : tie.Start) → toZ w32 (ofZ w32 (c .args .z)) ≡ c .args .z
 bits-z c = toZ-ofZ w32 (c .args .z) (c .fits .z)
@@ -25,23 +24,18 @@ bits-flip c = toZ-ofZ w32 (negsuc 0 -ℤ c .before .args .z) (below c .fits)
 sub-result : tie.Need-sub-result
 sub-result c = rw (bits-z (c .before)) (below c .fits)
 
--- src/words.rt:53:23
 cast-result : tie.Need-cast-result
 cast-result c = rw (bits-z (c .before), bits-flip c) (below c .nonneg, record { fits = omega (arith, below c .low) })
 
--- src/words.rt:53:9
 sub-result-2 : tie.Need-sub-result-2
 sub-result-2 c = rw (bits-z (c .before), bits-flip c) (omega (arith, below c .low))
 
--- src/words.rt:55:9
 cast-result-2 : tie.Need-cast-result-2
 cast-result-2 c = rw (bits-z (c .before)) (above c .nonneg, record { fits = omega (arith, above c .low) })
 
--- src/words.rt:49:1
 returns : tie.Need-returns
 returns c = rw (bits-z (c .before), bits-flip c) (below c .bits)
 
--- src/words.rt:49:1
 returns-2 : tie.Need-returns-2
 returns-2 c = rw (bits-z (c .before)) (above c .bits)
 

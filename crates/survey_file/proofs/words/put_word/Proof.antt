@@ -1,3 +1,4 @@
+-- `survey_file::words::put_word` meets its contract: its four stores are the run of stores that the contract names.
 use native.Mathlib.Omega.{arith}
 use native.Mathlib.Numerals.{towards-suc}
 use lib.ListN.{length-set}
@@ -5,58 +6,43 @@ use Rattle.surface.specs.SurveyFile.{bytesOf}
 use borrow.Author.Needs.{needs}
 use Rattle.survey_file.proofs.words.put_word.Statement.{statement}
 use Rattle.survey_file.proofs.words.put_word.Tie as tie
-use Rattle.survey_file.proofs.words.put_word.Reads as reads
-use Rattle.survey_file.proofs.words.put_word.Lts as lts
 
--- src/words.rt:31:15
 cast-file : tie.Need-cast-file
 cast-file c = search needs
 
--- src/words.rt:31:5
 slice-write-file : tie.Need-slice-write-file
 slice-write-file c = search needs
 
--- src/words.rt:32:19
 cast-file-2 : tie.Need-cast-file-2
 cast-file-2 c = search needs
 
--- src/words.rt:32:10
 add-file : tie.Need-add-file
 add-file c = search needs
 
--- src/words.rt:32:5
 slice-write-file-2 : tie.Need-slice-write-file-2
 slice-write-file-2 c = simp length-set (omega arith)
 
--- src/words.rt:33:19
 cast-file-3 : tie.Need-cast-file-3
 cast-file-3 c = search needs
 
--- src/words.rt:33:10
 add-file-2 : tie.Need-add-file-2
 add-file-2 c = search needs
 
--- src/words.rt:33:5
 slice-write-file-3 : tie.Need-slice-write-file-3
 slice-write-file-3 c = simp length-set (omega arith)
 
--- src/words.rt:34:19
 cast-file-4 : tie.Need-cast-file-4
 cast-file-4 c = search needs
 
--- src/words.rt:34:10
 add-file-3 : tie.Need-add-file-3
 add-file-3 c = search needs
 
--- src/words.rt:34:5
 slice-write-file-4 : tie.Need-slice-write-file-4
 slice-write-file-4 c = simp length-set (omega arith)
 
--- src/words.rt:27:1
 same-length : tie.Need-same-length
 same-length c = search needs
 
--- src/words.rt:27:1
 returns : tie.Need-returns
 unfolding bytesOf
 returns c = simp towards-suc
