@@ -25,6 +25,12 @@ module _ (c : tie.Start) where
   bits-rounded : toZ w32 (ofZ w32 (rounded (c .args .t))) ≡ rounded (c .args .t)
   bits-rounded = toZ-ofZ w32 (rounded (c .args .t)) (rounded-fits (c .args .t) (c .fits .t))
 
+-- the three ways out: neither test held, the first, the second
+same : (c : tie.Else2) → quotZ (c .before .before .args .t) (pos 10) ≡ rounded (c .before .before .args .t)
+same c =
+    let s = c .before .before in
+    rounded-same (s .args .t) (rw (bits-t s, bits-rem s) at (c .before .if1 .left)) (rw (bits-t s, bits-rem s) at (c .if2 .left))
+
 up : (c : tie.Then1) → quotZ (c .before .args .t) (pos 10) +ℤ pos 1 ≡ rounded (c .before .args .t)
 up c = rounded-up (c .before .args .t) (rw (bits-t (c .before), bits-rem (c .before)) at (c .if1 .taken))
 
@@ -52,10 +58,7 @@ returns-2 : tie.Need-returns-2
 returns-2 c = rw (bits-t (c .before .before), bits-quot (c .before .before), down c) (bits-rounded (c .before .before))
 
 returns-3 : tie.Need-returns-3
-returns-3 c =
-    let s = c .before .before in
-    rw (bits-t s, bits-quot s)
-    (rounded-same (s .args .t) (rw (bits-t s, bits-rem s) at (c .before .if1 .left)) (rw (bits-t s, bits-rem s) at (c .if2 .left)))
+returns-3 c = rw (bits-t (c .before .before), bits-quot (c .before .before)) (same c)
 
 pub round-spec : {M : Type 1} → statement M
 round-spec =
