@@ -4,7 +4,7 @@ use native.Mathlib.Numerals.{add-one}
 use native.Mathlib.Omega.{arith}
 use mathlib.Core.Path.{_≡_, refl, ap}
 use mathlib.Core.Bool.{Bool, true, false, cond}
-use mathlib.Core.List.{List, [], _∷_}
+use mathlib.Core.List.{List, [], _∷_, map}
 use lib.ListN.{length, getD, drop, drop-of-length-le}
 use lib.Seq.{drop-cons}
 use Rattle.surface.specs.Lists.{firstNot}
@@ -43,7 +43,10 @@ module _ {A : Type 0} (s : A → Bool) where
   firstNot-all (x ∷ l) d e zero h = counted (s x) e .0
   firstNot-all (x ∷ l) d e (suc i) h = firstNot-all l d (counted (s x) e .1) i (omega arith)
 
-  pub all-firstNot : (l : List A) (d : A) → ((i : ℕ) → i < length l → s (getD l i d) ≡ true) → firstNot s l ≡ length l
-  unfolding firstNot
-  all-firstNot [] d f = refl
-  all-firstNot (x ∷ l) d f = rw (f 0 (omega arith)) (ap suc (all-firstNot l d (λ i h. f (suc i) (omega arith))))
+-- where all pass one test, all pass another after f
+pub firstNot-map :
+    {A B : Type 0} (s : A → Bool) (u : B → Bool) (f : A → B) → ((x : A) → s x ≡ true → u (f x) ≡ true)
+    → (l : List A) → firstNot s l ≡ length l → firstNot u (map f l) ≡ length (map f l)
+unfolding firstNot
+firstNot-map s u f h [] e = refl
+firstNot-map s u f h (x ∷ l) e = rw (h x (counted (s x) e .0)) (ap suc (firstNot-map s u f h l (counted (s x) e .1)))

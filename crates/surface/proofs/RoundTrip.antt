@@ -10,13 +10,18 @@ use lib.Seq.{ext-getD}
 use Rattle.surface.specs.Lists.{firstNot}
 use Rattle.surface.specs.Plot.{isHeight}
 use Rattle.surface.specs.SurveyFile.{wordAt, statedCount, countFor, fileSize, signed, bytesOf, isTenths, tenthsOf, rounded, heightsIn, filedHeights, fileOf}
-use Rattle.surface.specs.Refusals.{readVerdict, writeVerdict}
-use Rattle.surface.specs.Calls.{readAnswer, readHeights, writeFile}
+use Rattle.surface.specs.Refusals.{readVerdict}
+use Rattle.surface.specs.Calls.{readAnswer, readHeights, writeAnswer, writeFile}
 use Rattle.surface.proofs.FileCalls.{read-code, read-served, read-filled, write-filled}
-use Rattle.surface.proofs.FirstNot.{firstNot-all, all-firstNot}
-use Rattle.surface.proofs.SurveyFile.{length-tenthsOf, getD-tenthsOf, wordAt-skip, wordAt-bytesOf, wordAt-filed, length-filedHeights, signed-unsigned, mag-tenfold, isTenths-tenfold, rounded-tenfold}
-use Rattle.surface.proofs.Verdicts.{Readable, Writable, read-accepted, accepted-read, write-accepted, posts-low}
+use Rattle.surface.proofs.FirstNot.{firstNot-all, firstNot-map}
+use Rattle.surface.proofs.SurveyFile.{length-tenthsOf, getD-tenthsOf, wordAt-skip, wordAt-bytesOf, wordAt-filed, length-filedHeights, signed-unsigned, mag-tenfold, isTenths-tenfold, rounded-tenfold, isHeight-rounded}
+use Rattle.surface.proofs.Verdicts.{postsIn, Readable, Writable, read-accepted, accepted-read, write-accepted, posts-low}
 
+map-rounded : (zs : List ℤ) → map rounded (map (λ z. z *ℤ pos 10) zs) ≡ zs
+map-rounded [] = refl
+map-rounded (z ∷ zs) = rw (rounded-tenfold z, map-rounded zs)
+
+-- the file of an accepted write
 module _ (rows columns : ℕ) (hs : List ℤ) (file : List ℕ) (w : Writable rows columns hs file) where
   head : List ℕ
   head = 1 ∷ bytesOf (countFor rows columns) ++ rows ∷ columns ∷ []
@@ -56,20 +61,7 @@ module _ (rows columns : ℕ) (hs : List ℤ) (file : List ℕ) (w : Writable ro
       ∙ wordAt-bytesOf (countFor rows columns) (rows ∷ columns ∷ filedHeights hs) (omega (arith, posts-low rows columns (w .sides)))
 
   in-range : firstNot isTenths (tenthsOf (fileOf rows columns hs) (rows * columns)) ≡ rows * columns
-  in-range =
-      rw (← w .heights, tenths)
-      (all-firstNot
-      isTenths
-      (map (λ z. z *ℤ pos 10) hs)
-      (pos 0)
-      (λ i h.
-      let k : i < length hs = rw (length-map hs (λ z. z *ℤ pos 10)) at h in
-      rw (List·getD-map (λ z. z *ℤ pos 10) hs i (pos 0)) (isTenths-tenfold (getD hs i (pos 0)) (firstNot-all isHeight hs (pos 0) (w .inRange) i k)))
-      ∙ length-map hs (λ z. z *ℤ pos 10))
-
-  map-rounded : (zs : List ℤ) → map rounded (map (λ z. z *ℤ pos 10) zs) ≡ zs
-  map-rounded [] = refl
-  map-rounded (z ∷ zs) = rw (rounded-tenfold z, map-rounded zs)
+  in-range = rw (← w .heights, tenths) (firstNot-map isHeight isTenths (λ z. z *ℤ pos 10) isTenths-tenfold hs (w .inRange) ∙ length-map hs (λ z. z *ℤ pos 10))
 
   read-back : heightsIn (fileOf rows columns hs) (rows * columns) ≡ hs
   unfolding heightsIn
@@ -93,11 +85,11 @@ read-size file out e =
     let v = sym (read-code file out) ∙ e in
     rw (read-served file out v) (read-accepted file out v .size)
 
--- What reading answers and fills in hangs on the file and the number of heights, and not on what the list held before.
 same-verdict : (file : List ℕ) (out old : List ℤ) → length out ≡ length old → readVerdict file out ≡ readVerdict file old
 unfolding readVerdict
 same-verdict file out old e = rw e
 
+-- What reading answers and fills in hangs on the file and the number of heights, and not on what the list held before.
 pub read-fresh :
     (file : List ℕ) (out old : List ℤ)
     → length out ≡ length old
@@ -113,14 +105,32 @@ read-fresh file out old e = (answers, heights)
         let u : readVerdict file old .code ≡ 0 = rw (same-verdict file out old e) at v in
         read-filled file out v ∙ ap (heightsIn file) e ∙ sym (read-filled file old u)
 
+length-heightsIn : (file : List ℕ) (n : ℕ) → length (heightsIn file n) ≡ n
+unfolding heightsIn
+length-heightsIn file n = length-map (tenthsOf file n) rounded ∙ length-tenthsOf file n
+
+heightsIn-high : (file : List ℕ) (n : ℕ) → firstNot isTenths (tenthsOf file n) ≡ n → firstNot isHeight (heightsIn file n) ≡ length (heightsIn file n)
+unfolding heightsIn
+heightsIn-high file n e = firstNot-map isTenths isHeight rounded isHeight-rounded (tenthsOf file n) (e ∙ sym (length-tenthsOf file n))
+
+-- An accepted read leaves heights that every other call accepts: as many as its rows and columns say, all in range.
+pub read-heights :
+    (file : List ℕ) (out : List ℤ) → readAnswer file out .code ≡ 0
+    → (length (readHeights file out) ≡ readAnswer file out .rows * readAnswer file out .columns)
+    × (firstNot isHeight (readHeights file out) ≡ length (readHeights file out))
+read-heights file out e =
+    let v = sym (read-code file out) ∙ e in
+    let r = read-accepted file out v in
+    rw (read-served file out v, read-filled file out v, r .room) (length-heightsIn file (postsIn file), heightsIn-high file (postsIn file) (r .tenths))
+
 -- "A file we write reads back to the same millimetre heights": into any list of as many heights, with the same rows and columns.
 pub round-trip :
     (rows columns : ℕ) (hs : List ℤ) (file : List ℕ) (out : List ℤ)
-    → writeVerdict rows columns hs file .code ≡ 0
+    → writeAnswer rows columns hs file .code ≡ 0
     → length out ≡ rows * columns
     → (readAnswer (writeFile rows columns hs file) out ≡ record { code = 0; place = 0; rows = rows; columns = columns })
     × (readHeights (writeFile rows columns hs file) out ≡ hs)
-unfolding fileOf bytesOf
+unfolding writeAnswer fileOf bytesOf
 round-trip rows columns hs file out e h =
     let w = write-accepted rows columns hs file e in
     let r = accepted-read (fileOf rows columns hs) out (written-readable rows columns hs file w out h) in

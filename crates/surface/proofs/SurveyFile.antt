@@ -1,5 +1,5 @@
 -- The parts of a survey file: words and their bytes, filed heights, rounding.
-use Prim.Native.Nat.{ℕ, zero, suc, _+_, _-_, _*_, _/_, _%_, _<_}
+use Prim.Native.Nat.{ℕ, zero, suc, _+_, _-_, _*_, _/_, _%_, _<_, _≤_}
 use native.Mathlib.Nat.{div-div-eq-div-mul}
 use native.Mathlib.Numerals.{add-one}
 use native.Mathlib.Omega.{arith}
@@ -7,7 +7,7 @@ use mathlib.Core.Path.{_≡_, refl, sym, _∙_, ap}
 use mathlib.Core.Bool.{Bool, true, false, not, _&&_}
 use mathlib.Core.List.{List, [], _∷_, _++_, append-assoc, append-nil}
 use borrow.Author.Tests.{ltb-false, lt-ltb, le-ltb, not-true}
-use lib.IntN.{ℤ, pos, negsuc, _*ℤ_}
+use lib.IntN.{ℤ, pos, negsuc, negℤ, _*ℤ_}
 use lib.Signed.{mag}
 use lib.ListN.{length, getD, take, length-append}
 use lib.Seq.{getD-append-add, take-suc}
@@ -89,6 +89,16 @@ isTenths-tenfold (negsuc n) e = rw (tenfold-negsuc n, le-ltb 9999999 (n * 10 + 9
 pub mag-tenfold : (z : ℤ) → isHeight z ≡ true → mag (z *ℤ pos 10) < 2147483648
 mag-tenfold (pos n) e = omega (arith, ltb-false 1000000 n (not-true _ e))
 mag-tenfold (negsuc n) e = rw (tenfold-negsuc n) (omega (arith, ltb-false 999999 n (not-true _ (and-left _ _ e))))
+
+-- a filed height in range is rounded to a height in range
+low-height : (k : ℕ) → k ≤ 1000000 → isHeight (negℤ (pos k)) ≡ true
+low-height zero h = refl
+low-height (suc k) h = rw (le-ltb 999999 k (omega arith))
+
+pub isHeight-rounded : (t : ℤ) → isTenths t ≡ true → isHeight (rounded t) ≡ true
+unfolding rounded
+isHeight-rounded (pos n) e = ap not (le-ltb 1000000 ((n + 5) / 10) (omega (arith, ltb-false 10000000 n (not-true _ e))))
+isHeight-rounded (negsuc n) e = low-height ((n + 1 + 5) / 10) (omega (arith, ltb-false 9999999 n (not-true _ (and-left _ _ e))))
 
 -- ---- what is read
 
