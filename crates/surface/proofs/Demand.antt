@@ -25,7 +25,7 @@ use Rattle.surface.proofs.ListOf.{getD-listOf, member-listOf, listOf-me
 use Rattle.surface.proofs.Grid.{row-fits, top-true}
 use Rattle.surface.proofs.Walks.{Vertex, Descent, LineFalls, line-falls, end-vertex, end-inside, end-is-stop, end-stop, pit-stop}
 use Rattle.surface.proofs.Network.{theSides, not-pit, down, up, up-post, up-keeps, end-pit, end-peak, dale-pit, pit-dale, hill-peak, peak-hill, dale-piece, hill-piece, balanced, border-dale, mark-pit, mark-peak}
-use Rattle.surface.proofs.Verdicts.{Plotted, survey-plotted, line-plotted, plotted-survey, plotted-parts}
+use Rattle.surface.proofs.Accepted.{Plotted, survey-plotted, line-plotted, plotted-survey, plotted-parts}
 use Rattle.surface.proofs.Series.{Good, good-series}
 
 way-map : {edge : ℕ → ℕ → Type 0} {m m′ : ℕ → Type 0} → ((p : ℕ) → m p → m′ p) → {p q : ℕ} → Way edge m p q → Way edge m′ p q

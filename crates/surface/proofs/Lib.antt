@@ -2,6 +2,7 @@
 pub mod Bools
 pub mod Sum
 pub mod ListOf
+pub mod FirstNot
 pub mod Grid
 pub mod Cells
 pub mod Order
@@ -20,6 +21,10 @@ pub mod Pieces
 pub mod Agreement
 pub mod Locality
 pub mod Verdicts
+pub mod SurveyFile
+pub mod Accepted
+pub mod FileCalls
+pub mod RoundTrip
 pub mod Series
 pub mod Network
 pub mod Demand

@@ -1,13 +1,14 @@
 -- Laws of lists made by `listOf`, and of counting.
 use Prim.Native.Nat.{ℕ, zero, suc, _+_, _-_, _*_, _≤_, _<_}
 use native.Mathlib.Omega.{arith}
+use native.Mathlib.Numerals.{add-one}
 use mathlib.Core.Path.{_≡_, refl, sym, _∙_, ap, ap₂}
 use mathlib.Core.Bool.{Bool, true, false, cond, not, _&&_, _||_, true≢false}
 use mathlib.Core.Logic.{_↔_, ⊎-elim}
-use mathlib.Core.List.{List, [], _∷_, _++_, map, List·Memᴰ, List·Memᴰ·head, List·Memᴰ·tail, List·Memᴰ·cases-cons, List·Memᴰ·not-nil, List·Memᴰ·append-cases, List·Memᴰ·eq-of-singleton, Memᴰ·append-left, Memᴰ·append-right}
+use mathlib.Core.List.{List, [], _∷_, _++_, map, map-append, append-nil, List·Memᴰ, List·Memᴰ·head, List·Memᴰ·tail, List·Memᴰ·cases-cons, List·Memᴰ·not-nil, List·Memᴰ·append-cases, List·Memᴰ·eq-of-singleton, Memᴰ·append-left, Memᴰ·append-right}
 use native.Mathlib.Decide.{ℕ-discrete}
-use lib.ListN.{length, getD, length-append, List·getD-append}
-use lib.Seq.{getD-append-seam}
+use lib.ListN.{length, getD, drop, set, length-append, length-drop, List·getD-append}
+use lib.Seq.{getD-append-seam, drop-cons, drop-length, append-snoc, set-at}
 use lib.Dec.{eqb}
 use borrow.Author.Tests.{eqb-true, eqb-false}
 use Rattle.surface.specs.Lists.{listOf, any, one, count, total}
@@ -89,3 +90,33 @@ any-member (x ∷ l) w = (to (eqb x w) refl (any-member l w .0), from (eqb x w) 
     from true e ih m = refl
     from false e ih m =
         ⊎-elim (λ (k : w ≡ x). absurd (eqb-false x w e (sym k))) (λ (k : List·Memᴰ w l). ih k) (List·Memᴰ·cases-cons m)
+
+-- a list that a loop fills from the front, and what a map makes of one
+module _ {A : Type 0} (f : ℕ → A) where
+  -- a list l that a loop fills from the front, after i turns
+  abbrev pub Filled : List A → ℕ → List A → Type 0
+  Filled l i l′ = l′ ≡ listOf f i ++ drop i l
+
+  pub filled-none : (l : List A) → Filled l 0 l
+  unfolding listOf
+  filled-none l = refl
+
+  set-listOf : (l : List A) (i : ℕ) → i < length l → set (listOf f i ++ drop i l) i (f i) ≡ listOf f (i + 1) ++ drop (i + 1) l
+  unfolding listOf
+  set-listOf l i h =
+      rw (add-one, drop-cons l i (f i) h)
+      (set-at (listOf f i) (getD l i (f i)) (drop (suc i) l) (f i) i (length-listOf f i) ∙ sym (append-snoc (listOf f i) (f i) (drop (suc i) l)))
+
+  pub filled-more : (l : List A) (i : ℕ) (l′ : List A) (x : A) → i < length l → Filled l i l′ → x ≡ f i → Filled l (i + 1) (set l′ i x)
+  filled-more l i l′ x h e v = rw (e, v) (set-listOf l i h)
+
+  pub filled-length : (l : List A) (i : ℕ) (l′ : List A) → i ≤ length l → Filled l i l′ → length l′ ≡ length l
+  filled-length l i l′ h e = rw e (simp (length-append, length-drop, length-listOf) (omega arith))
+
+  pub filled-all : (l : List A) (i : ℕ) (l′ : List A) → i ≡ length l → Filled l i l′ → l′ ≡ listOf f (length l)
+  filled-all l i l′ h e = rw (e, h, drop-length l) (append-nil (listOf f (length l)))
+
+pub map-listOf : {A B : Type 0} (g : A → B) (f : ℕ → A) (n : ℕ) → map g (listOf f n) ≡ listOf (λ i. g (f i)) n
+unfolding listOf
+map-listOf g f zero = refl
+map-listOf g f (suc n) = rw (map-append, map-listOf g f n)

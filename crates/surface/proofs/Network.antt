@@ -26,7 +26,7 @@ use Rattle.surface.proofs.Signs.{any-above}
 use Rattle.surface.proofs.Balance.{balance}
 use Rattle.surface.proofs.Walks.{Vertex, Descent, next-step, pit-stop, end-stop, end-next, end-is-stop, end-vertex, end-inside, member-filter, member-any}
 use Rattle.surface.proofs.Pieces.{one-piece}
-use Rattle.surface.proofs.Verdicts.{Plotted}
+use Rattle.surface.proofs.Accepted.{Plotted}
 
 module _ (rows columns : ℕ) (hs : List ℤ) (plot : Plotted rows columns hs) where
   pub theSides : Sides rows columns

@@ -18,7 +18,8 @@ use Rattle.surface.proofs.Bools.{either}
 use Rattle.surface.proofs.ListOf.{length-listOf, getD-listOf, listOf-ext}
 use Rattle.surface.proofs.Grid.{Sides, sides}
 use Rattle.surface.proofs.Locality.{markAt-set}
-use Rattle.surface.proofs.Verdicts.{Plotted, reshoot-plotted, all-set}
+use Rattle.surface.proofs.Accepted.{Plotted, reshoot-plotted}
+use Rattle.surface.proofs.FirstNot.{all-set}
 
 -- redrawing the marks of a survey round a post gives those of a fresh survey with the new height
 pub redrawn-fresh : (rows columns : ℕ) → Sides rows columns → (hs : List ℤ) (post : ℕ) (new : ℤ)
