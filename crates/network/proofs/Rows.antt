@@ -1,6 +1,7 @@
 -- The posts of a row that are on no border.
 use Prim.Native.Nat.{ℕ, suc, _+_, _-_, _*_, _≤_, _<_}
 use native.Mathlib.Omega.{arith}
+use native.Mathlib.Nat.{mul-le-mul, mul-le-mul-right, suc-mul, add-mul, one-mul}
 use mathlib.Core.Path.{_≡_, refl, sym, _∙_, ap}
 use mathlib.Core.Bool.{Bool, true, false}
 use mathlib.Core.List.{List}
@@ -8,7 +9,7 @@ use lib.IntN.{ℤ}
 use lib.ListN.{getD}
 use Rattle.surface.specs.Plot.{below, column as place}
 use Rattle.surface.specs.Edges.{isBorder, throughLowest}
-use Rattle.surface.proofs.Grid.{Sides, column-is, top-false, bottom-false, first-false, last-false}
+use Rattle.surface.proofs.Grid.{Sides, row-fits, column-is, top-false, bottom-false, first-false, last-false}
 use Rattle.plot.specs.Fits.{Fits}
 use Rattle.plot.specs.Signs.{Inside}
 use Rattle.network.specs.Rows.{Falls, Inner}
@@ -47,3 +48,23 @@ module _ {rows columns : ℕ} {hs : List ℤ} {base : ℕ} {above here : List Bo
             bottom-false s (base + c) (omega arith) .1 (omega arith),
             first-false s (base + c) .1 (omega (arith, column)),
           )
+
+-- a plot has at most 14,400 posts
+pub fits-small : {rows columns : ℕ} {hs : List ℤ} → Fits rows columns hs → rows * columns ≤ 14400
+fits-small f = mul-le-mul {n₂ = 120} {m₂ = 120} (f .rowsHigh) (f .columnsHigh)
+
+-- row r of a plot, and where the rows round it start
+pub row-room : {rows columns : ℕ} (r : ℕ) → 1 ≤ r → r + 1 < rows → (columns ≤ r * columns) × (r * columns + columns + columns ≤ rows * columns)
+row-room {rows} {columns} r h k = (
+  omega (arith, mul-le-mul-right columns h, one-mul columns),
+  omega (arith, mul-le-mul-right columns k, suc-mul (r + 1) columns, add-mul r 1 columns, one-mul columns),
+)
+
+pub row-inner : {rows columns : ℕ} {hs : List ℤ} {above here : List Bool} (r : ℕ) → Fits rows columns hs → 1 ≤ r → r + 1 < rows
+  → Falls hs columns (r * columns - columns) above → Falls hs columns (r * columns) here → Inner rows columns hs (r * columns) above here
+row-inner r f h k a b =
+    let m = row-room r h k in
+    record { fits = f; r = r; start = refl; under = m .0; room = m .1; small = fits-small f; aboveFalls = a; hereFalls = b }
+
+pub fits-two : {rows columns : ℕ} {hs : List ℤ} → Fits rows columns hs → columns + columns ≤ rows * columns
+fits-two f = row-fits (fits-sides f)

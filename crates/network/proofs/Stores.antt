@@ -34,6 +34,9 @@ module _ {A : Type 0} (f : ℕ → A) where
       let e : from + n + m ≡ from + (n + m) = omega arith in
       rw (add-suc n m, stores-next from n m l, e)
 
+  pub stores-join : (a n b m k : ℕ) (l l₁ l₂ : List A) → l₁ ≡ stores f a n l → l₂ ≡ stores f b m l₁ → b ≡ a + n → k ≡ n + m → l₂ ≡ stores f a k l
+  stores-join a n b m k l l₁ l₂ e₁ e₂ p q = rw (e₂, e₁, p, q) (stores-next a n m l)
+
   pub stores-in : (from n : ℕ) (l : List A) (i : ℕ) (d : A) → from + n ≤ length l → from ≤ i → i < from + n → getD (stores f from n l) i d ≡ f i
   unfolding stores
   stores-in from zero l i d h a b = absurd (omega arith)

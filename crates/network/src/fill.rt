@@ -7,7 +7,7 @@ ghost use lib.ListN.{length, getD};
 ghost use mathlib.Core.Bool.{false};
 ghost use Rattle.surface.specs.Plot.{below};
 ghost use Rattle.surface.specs.Edges.{throughLowest};
-ghost use Rattle.surface.specs.Marks.{markAt};
+ghost use Rattle.surface.specs.Marks.{markAt, marksOf};
 ghost use Rattle.plot.specs.Fits.{Fits};
 ghost use Rattle.network.specs.Stores.{stores};
 ghost use Rattle.network.specs.Rows.{Falls, Inner};
@@ -63,4 +63,49 @@ fn mark_each(heights: &[i32], rows: usize, columns: usize, from: usize, n: usize
         marks[from + i] = mark::mark_at(heights, rows, columns, from + i);
         i += 1;
     }
+}
+
+// The marks of a row that is neither the top nor the bottom one.
+fn mark_row(
+    heights: &[i32],
+    rows: usize,
+    columns: usize,
+    base: usize,
+    above: &[bool],
+    here: &[bool],
+    marks: &mut [u8],
+)
+    requires { ⌜ Inner rows columns (now heights) base (now above) (now here) × (length (now marks) ≡ rows * columns) ⌝ }
+    ensures { λ _. ⌜ now (marks .exit) ≡ stores (markAt rows columns (now (heights .entry))) base columns (now (marks .entry)) ⌝ }
+{
+    mark_each(heights, rows, columns, base, 1, marks);
+    mark_inner(heights, rows, columns, base, above, here, marks);
+    mark_each(heights, rows, columns, base + (columns - 1), 1, marks);
+}
+
+// The marks of every row between the top and the bottom one.
+fn mark_rows(heights: &[i32], rows: usize, columns: usize, marks: &mut [u8])
+    requires { ⌜ Fits rows columns (now heights) × (length (now marks) ≡ rows * columns) ⌝ }
+    ensures { λ _. ⌜ now (marks .exit) ≡ stores (markAt rows columns (now (heights .entry))) columns (rows * columns - columns - columns) (now (marks .entry)) ⌝ }
+{
+    let mut above = [false; 120];
+    let mut here = [false; 120];
+    falls_row(heights, columns, 0, &mut above);
+    let mut r = 1;
+    while r + 1 < rows {
+        falls_row(heights, columns, r * columns, &mut here);
+        mark_row(heights, rows, columns, r * columns, &above, &here, marks);
+        above = here;
+        r += 1;
+    }
+}
+
+// The marks of a whole plot.
+pub(crate) fn mark_plot(heights: &[i32], rows: usize, columns: usize, marks: &mut [u8])
+    requires { ⌜ Fits rows columns (now heights) × (length (now marks) ≡ rows * columns) ⌝ }
+    ensures { λ _. ⌜ now (marks .exit) ≡ marksOf rows columns (now (heights .entry)) ⌝ }
+{
+    mark_each(heights, rows, columns, 0, columns, marks);
+    mark_rows(heights, rows, columns, marks);
+    mark_each(heights, rows, columns, rows * columns - columns, columns, marks);
 }
