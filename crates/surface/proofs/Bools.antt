@@ -1,6 +1,6 @@
--- What Bool tests tell of their parts.
-use mathlib.Core.Path.{_≡_, refl, sym, _∙_, ap, subst}
-use mathlib.Core.Bool.{Bool, true, false, cond, not, _&&_, _||_, true≢false}
+-- What Bool tests tell of their parts; case distinction on a test; tests as types.
+use mathlib.Core.Path.{_≡_, refl, sym}
+use mathlib.Core.Bool.{Bool, true, false, _&&_, _||_, true≢false}
 use lib.Dec.{T}
 
 pub and-left : (a b : Bool) → a && b ≡ true → a ≡ true
@@ -19,13 +19,19 @@ pub or-right : (a b : Bool) → a || b ≡ false → b ≡ false
 or-right true b h = absurd (true≢false h)
 or-right false b h = h
 
-pub not-not : (a : Bool) → not (not a) ≡ a
-not-not true = refl
-not-not false = refl
+pub true-T : {b : Bool} → b ≡ true → T b
+true-T e = rw e tt
 
-pub is-true : (a : Bool) → T a → a ≡ true
-is-true true t = refl
-is-true false t = absurd t
+pub T-true : (b : Bool) → T b → b ≡ true
+T-true true t = refl
+T-true false t = absurd t
 
-pub is-T : (a : Bool) → a ≡ true → T a
-is-T a h = subst T (sym h) tt
+pub either {ℓ} : {C : Type ℓ} (b : Bool) → (b ≡ true → C) → (b ≡ false → C) → C
+either true f g = f refl
+either false f g = g refl
+
+-- two tests that hold together are equal
+pub same-test : (a b : Bool) → (a ≡ true → b ≡ true) → (b ≡ true → a ≡ true) → a ≡ b
+same-test true b f g = sym (f refl)
+same-test false true f g = g refl
+same-test false false f g = refl

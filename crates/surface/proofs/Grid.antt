@@ -1,19 +1,33 @@
 -- Rows and columns of a post and of its neighbours, in a plot of at least 2 rows and 2 columns (document 01, "Plot, posts and height order").
-use Prim.Native.Nat.{ℕ, suc, _+_, _-_, _*_, _/_, _%_, _≤_, _<_}
+use Prim.Native.Nat.{ℕ, _+_, _-_, _*_, _≤_, _<_}
 use mathlib.Core.Path.{_≡_, refl, sym, ap, _∙_}
-use mathlib.Core.Bool.{Bool, true, false}
+use mathlib.Core.Bool.{Bool, true, false, and-eq-true-iff}
 use mathlib.Core.Logic.{_↔_}
-use native.Mathlib.Nat.{div-add-mod', mod-lt, div-lt-iff-lt-mul, le-div-iff-mul-le, add-div-right, add-mod-right, mul-add-div-right, mul-add-mod-self-right, div-eq-of-lt, mod-eq-of-lt}
+use native.Mathlib.Nat.{div-add-mod', mod-lt, div-lt-iff-lt-mul, le-div-iff-mul-le, add-div-right, add-mod-right, mul-add-div-right, mul-add-mod-self-right, div-eq-of-lt, mod-eq-of-lt, mul-le-mul, mul-le-mul-right, two-mul, add-mul, one-mul}
 use native.Mathlib.Omega.{arith}
-use lib.Dec.{eqb}
-use borrow.Author.Tests.{eqb-true, eqb-false, eq-eqb, ne-eqb}
-use Rattle.surface.specs.Plot.{row, column}
+use lib.Dec.{leb, eqb}
+use borrow.Author.Tests.{leb-true, eqb-true, eqb-false, eq-eqb, ne-eqb}
+use Rattle.surface.specs.Plot.{isSide, row, column, virtualPit}
 use Rattle.surface.specs.Edges.{top, bottom, first, last}
 
 -- what "2 to 120 rows and 2 to 120 columns" gives
 pub record Sides (rows columns : ℕ) : Type 0 where
   pub tall : 2 ≤ rows
   pub wide : 2 ≤ columns
+
+side-from : (n : ℕ) → isSide n ≡ true → 2 ≤ n
+side-from n h = leb-true 2 n (and-eq-true-iff (leb 2 n) (leb n 120) .0 h .0)
+
+side-to : (n : ℕ) → isSide n ≡ true → n ≤ 120
+side-to n h = leb-true n 120 (and-eq-true-iff (leb 2 n) (leb n 120) .0 h .1)
+
+pub sides : (rows columns : ℕ) → isSide rows ≡ true → isSide columns ≡ true → Sides rows columns
+sides rows columns r c = record { tall = side-from rows r; wide = side-from columns c }
+
+-- no post has the number that is written for the virtual pit
+pub plot-fits : (rows columns : ℕ) → isSide rows ≡ true → isSide columns ≡ true → rows * columns ≤ virtualPit
+unfolding virtualPit
+plot-fits rows columns r c = omega (arith, mul-le-mul (side-to rows r) (side-to columns c))
 
 -- post number = row times columns plus column
 pub post-is : (columns p : ℕ) → row columns p * columns + column columns p ≡ p
@@ -87,7 +101,7 @@ module _ {rows columns : ℕ} (s : Sides rows columns) where
     λ h. ne-eqb (column columns p + 1) columns (omega arith),
   )
 
-  -- what p has in hand on the side where it is no border post
+  -- a post that is not in the first column is not post 0
   pub not-first : (p : ℕ) → first rows columns p ≡ false → 1 ≤ p
   not-first p f = omega (arith, post-is columns p, first-false p .0 f)
 
@@ -176,3 +190,30 @@ module _ {rows columns : ℕ} (s : Sides rows columns) where
 
   pub east-post : (p : ℕ) → p < rows * columns → last rows columns p ≡ false → p + 1 < rows * columns
   east-post p h l = row-lt rows (p + 1) .0 (omega (arith, row-east p l, row-lt rows p .1 h))
+
+  -- the column after the last is the first one of the next row
+  pub east-first-last : (p : ℕ) → first rows columns (p + 1) ≡ last rows columns p
+  east-first-last p = go (last rows columns p) refl
+    where
+      go : (b : Bool) → last rows columns p ≡ b → first rows columns (p + 1) ≡ b
+      go true l =
+          first-true (p + 1) .1
+          (column-is (row columns p + 1) 0 some-column (omega (arith, post-is columns p, last-true p .0 l, add-mul (row columns p) 1 columns, one-mul columns)))
+      go false l = east-first p l
+
+  -- the first post and the last
+  pub first-zero : (p : ℕ) → p < 1 → first rows columns p ≡ true
+  first-zero p h = first-true p .1 (rw (mod-eq-of-lt {n = p} {m = columns} (omega arith)) (omega arith))
+
+  pub last-end : (p : ℕ) → p < rows * columns → rows * columns ≤ p + 1 → last rows columns p ≡ true
+  last-end p h k = go (last rows columns p) refl
+    where
+      go : (b : Bool) → last rows columns p ≡ b → b ≡ true
+      go true l = refl
+      go false l = absurd (omega (arith, east-post p h l))
+
+  pub first-south : (p : ℕ) → p ≡ columns → first rows columns p ≡ true
+  first-south p e = first-true p .1 (column-is 1 0 some-column (omega (arith, one-mul columns)))
+
+  pub row-fits : columns + columns ≤ rows * columns
+  row-fits = omega (arith, mul-le-mul-right columns (s .tall), two-mul columns)

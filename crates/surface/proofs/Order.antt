@@ -122,6 +122,10 @@ module _ (hs : List ℤ) where
   unfolding below
   pit-below q k = rw (ne-eqb q virtualPit k, eq-eqb virtualPit virtualPit refl)
 
+  pub not-below-pit : (p : ℕ) → below hs p virtualPit ≡ false
+  unfolding below
+  not-below-pit p = rw (eq-eqb virtualPit virtualPit refl)
+
   pub below-strict : StrictTotal (below hs)
   unfolding below lex
   below-strict = record { irrefl = irr; other = oth; trans = tra }

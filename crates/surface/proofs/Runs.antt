@@ -4,6 +4,7 @@ use Prim.Native.Nat.{ℕ, zero, suc, _+_, _*_, _≤_, _<_}
 use native.Mathlib.Omega.{arith}
 use mathlib.Core.Path.{_≡_, refl, sym, _∙_, ap, subst}
 use mathlib.Core.Bool.{Bool, true, false, cond, not, _&&_, _||_, true≢false}
+use mathlib.Core.Logic.{_↔_}
 use mathlib.Core.List.{List, [], _∷_, _++_}
 use lib.Dec.{eqb}
 use lib.ListN.{length, length-append}
@@ -11,7 +12,7 @@ use borrow.Author.Tests.{eqb-true, eqb-false, eq-eqb, ne-eqb}
 use Rattle.surface.specs.Lists.{keep, any, all, lastOr, one}
 use Rattle.surface.specs.Edges.{runs, runsFrom}
 use Rattle.surface.specs.Marks.{markFor}
-use Rattle.surface.proofs.Bools.{and-left, or-left}
+use Rattle.surface.proofs.Bools.{and-left, or-left, either}
 
 -- how many runs start in a list, `before` being the side of what stands before it
 unfoldable pub starts : (ℕ → Bool) → Bool → List ℕ → ℕ
@@ -195,3 +196,55 @@ unfolding circle
 upper-lower-runs s x l h k =
     let n : all (λ q. not (s q)) (x ∷ l) ≡ false = all-not s (x ∷ l) ∙ ap not k in
     rw (length-runs s x l h, length-runs (λ q. not (s q)) x l n) (sym (circle-stops s x l))
+
+-- a pit has no member below and a peak none above, and no other ring has their marks
+module _ (s : ℕ → Bool) (x : ℕ) (l : List ℕ) where
+  abbrev markOf : ℕ
+  markOf = markFor (not (all s (x ∷ l))) (any s (x ∷ l)) (length (runs s (x ∷ l)))
+
+  pub mark-two : markOf ≡ 2 ↔ any s (x ∷ l) ≡ false
+  unfolding markFor all any
+  mark-two = (to, from)
+    where
+      go : (a b : Bool) (k : ℕ) → cond (not (not a)) 1 (cond (not b) 2 (cond (eqb k 1) 0 (k + 1))) ≡ 2 → b ≡ false
+      go true b k h = absurd (omega arith)
+      go false false k h = refl
+      go false true k h =
+          either (eqb k 1) (λ (e : eqb k 1 ≡ true). absurd (nothing (rw e at h))) (λ (e : eqb k 1 ≡ false). absurd (eqb-false k 1 e (more (rw e at h))))
+        where
+          nothing : _≡_ {A = ℕ} 0 2 → ⊥
+          nothing e = omega arith
+
+          more : k + 1 ≡ 2 → k ≡ 1
+          more e = omega arith
+
+      to : markOf ≡ 2 → any s (x ∷ l) ≡ false
+      to h = go (all s (x ∷ l)) (any s (x ∷ l)) (length (runs s (x ∷ l))) h
+
+      from : any s (x ∷ l) ≡ false → markOf ≡ 2
+      from h = rw (h, or-left (s x) (any s l) h)
+
+  pub mark-one : markOf ≡ 1 ↔ all s (x ∷ l) ≡ true
+  unfolding markFor circle
+  mark-one = (to, from)
+    where
+      go : (a b : Bool) → all s (x ∷ l) ≡ a → any s (x ∷ l) ≡ b
+          → cond (not (not a)) 1 (cond (not b) 2 (cond (eqb (length (runs s (x ∷ l))) 1) 0 (length (runs s (x ∷ l)) + 1))) ≡ 1 → a ≡ true
+      go true b e f h = refl
+      go false false e f h = absurd (omega arith)
+      go false true e f h =
+          let k = length (runs s (x ∷ l)) in
+          either (eqb k 1) (λ (i : eqb k 1 ≡ true). absurd (nothing (rw i at h)))
+          (λ (i : eqb k 1 ≡ false). absurd (circle-positive s x l e f (sym (length-runs s x l e) ∙ less k (rw i at h))))
+        where
+          nothing : _≡_ {A = ℕ} 0 1 → ⊥
+          nothing e = omega arith
+
+          less : (k : ℕ) → k + 1 ≡ 1 → k ≡ 0
+          less k e = omega arith
+
+      to : markOf ≡ 1 → all s (x ∷ l) ≡ true
+      to h = go (all s (x ∷ l)) (any s (x ∷ l)) refl refl h
+
+      from : all s (x ∷ l) ≡ true → markOf ≡ 1
+      from h = rw h

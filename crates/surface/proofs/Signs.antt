@@ -7,7 +7,8 @@ use mathlib.Core.Bool.{Bool, true, false, cond, not, _&&_, _||_}
 use mathlib.Core.List.{List, [], _∷_, _++_, List·Memᴰ}
 use lib.ListN.{getD, length}
 use Rattle.surface.specs.Lists.{keep, any, all, lastOr, one}
-use Rattle.surface.specs.Edges.{Place, members, places, ring, runs}
+use Rattle.surface.specs.Plot.{virtualPit}
+use Rattle.surface.specs.Edges.{Place, members, places, ring, runs, top, bottom, first, last}
 use Rattle.surface.specs.Marks.{mark, markFor}
 use Rattle.surface.proofs.Order.{StrictTotal}
 use Rattle.surface.proofs.Runs.{starts, lastSide, markBy, markFor-circle, lastSide-lastOr}
@@ -43,6 +44,46 @@ signs rows columns falls low p =
       w = getD l 6 true;
       nw = getD l 7 true;
     }
+
+-- the signs by the sides of p's neighbours: t b f l, on which borders p is; ne se sw nw, whether the cell's diagonal runs to p; N NE .. NW, whether the
+-- neighbour is below p
+unfoldable pub signsFrom : (t b f l : Bool) (ne se sw nw : Bool) (N NE E SE S SW W NW : Bool) → Signs
+signsFrom t b f l ne se sw nw N NE E SE S SW W NW =
+    let n′ = cond t true N in
+    let ne′ = cond (not t && (not l && ne)) NE n′ in
+    let e′ = cond (not (l && t)) (cond l true E) ne′ in
+    let se′ = cond (not l && (not b && se)) SE e′ in
+    let s′ = cond (not (b && (t || l))) (cond b true S) se′ in
+    let sw′ = cond (not b && (not f && sw)) SW s′ in
+    let w′ = cond (not (f && (t || (l || b)))) (cond f true W) sw′ in
+    let nw′ = cond (not f && (not t && nw)) NW w′ in
+    record { n = n′; ne = ne′; e = e′; se = se′; s = s′; sw = sw′; w = w′; nw = nw′ }
+
+side : (low : ℕ → Bool) → low virtualPit ≡ true → (b : Bool) (q : ℕ) → low (cond b virtualPit q) ≡ cond b true (low q)
+side low pit true q = pit
+side low pit false q = refl
+
+pub signs-from : (rows columns : ℕ) (falls low : ℕ → Bool) (p : ℕ) → low virtualPit ≡ true
+    → signs rows columns falls low p
+    ≡ signsFrom (top rows columns p) (bottom rows columns p) (first rows columns p) (last rows columns p) (not (falls (p - columns))) (falls p)
+    (not (falls (p - 1)))
+    (falls (p - columns - 1))
+    (low (p - columns))
+    (low (p - columns + 1))
+    (low (p + 1))
+    (low (p + columns + 1))
+    (low (p + columns))
+    (low (p + columns - 1))
+    (low (p - 1))
+    (low (p - columns - 1))
+unfolding signs places carried signsFrom
+signs-from rows columns falls low p pit =
+    rw (
+      side low pit (top rows columns p) (p - columns),
+      side low pit (last rows columns p) (p + 1),
+      side low pit (bottom rows columns p) (p + columns),
+      side low pit (first rows columns p) (p - 1),
+    )
 
 -- a run starts where a sign is true and the one before it is not
 abbrev pub rise : Bool → Bool → ℕ
@@ -93,7 +134,7 @@ module _ (rows columns : ℕ) (falls low : ℕ → Bool) (p : ℕ) where
   starts-ring = starts-members low _ (places rows columns falls p) ∙ omega arith
 
 -- what is not below a post is above it, for every member of a list that is not the post itself
-any-above : (lower : ℕ → ℕ → Bool) → StrictTotal lower → (p : ℕ) (l : List ℕ) → ((q : ℕ) → List·Memᴰ q l → q ≡ p → ⊥)
+pub any-above : (lower : ℕ → ℕ → Bool) → StrictTotal lower → (p : ℕ) (l : List ℕ) → ((q : ℕ) → List·Memᴰ q l → q ≡ p → ⊥)
     → any (λ q. lower p q) l ≡ not (all (λ q. lower q p) l)
 unfolding any all
 any-above lower o p [] h = refl

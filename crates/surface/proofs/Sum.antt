@@ -1,7 +1,7 @@
 -- Sums over 0, 1, .. n - 1.
-use Prim.Native.Nat.{ℕ, zero, suc, _+_, _-_, _*_, _≤_, _<_}
+use Prim.Native.Nat.{ℕ, zero, suc, _+_, _-_, _*_, _/_, _%_, _≤_, _<_}
 use native.Mathlib.Omega.{arith}
-use native.Mathlib.Nat.{zero-mul, suc-mul}
+use native.Mathlib.Nat.{zero-mul, suc-mul, add-zero, add-suc, mul-add-div-right, mul-add-mod-self-right, div-eq-of-lt, mod-eq-of-lt}
 use native.Mathlib.Decide.{ℕ-discrete}
 use mathlib.Core.Path.{_≡_, refl, sym, _∙_, ap, ap₂}
 
@@ -37,3 +37,43 @@ sum-lt (suc n) f g h j k l = go (ℕ-discrete j n) (sum-lt n f g (λ i m. h i (o
     go : Dec (j ≡ n) → (j < n → f j < g j → sum n f < sum n g) → sum n f + f n < sum n g + g n
     go (yes e) ih = omega (arith, sum-le n f g (λ i m. h i (omega arith)), rw e at l)
     go (no e) ih = omega (arith, ih (omega arith) l, h n (omega arith))
+
+pub sum-zero : (n : ℕ) (f : ℕ → ℕ) → ((i : ℕ) → i < n → f i ≡ 0) → sum n f ≡ 0
+unfolding sum
+sum-zero zero f h = refl
+sum-zero (suc n) f h = omega (arith, sum-zero n f (λ i k. h i (omega arith)), h n (omega arith))
+
+-- a sum in two parts
+pub sum-split : (m k : ℕ) (f : ℕ → ℕ) → sum (m + k) f ≡ sum m f + sum k (λ i. f (m + i))
+unfolding sum
+sum-split m zero f = rw (add-zero m) (omega arith)
+sum-split m (suc k) f = rw (add-suc m k) (omega (arith, sum-split m k f))
+
+-- a sum moved along by k, where what is moved out at either end is 0
+pub sum-shift : (n k : ℕ) (f g : ℕ → ℕ) → k ≤ n → ((i : ℕ) → i + k < n → f (i + k) ≡ g i) → ((i : ℕ) → i < k → f i ≡ 0)
+    → ((i : ℕ) → i < n → n ≤ i + k → g i ≡ 0) → sum n f ≡ sum n g
+sum-shift n k f g h moved low high =
+    let m = n - k in
+    let a : sum n f ≡ sum k f + sum m (λ i. f (k + i)) = ap (λ (x : ℕ). sum x f) (omega arith) ∙ sum-split k m f in
+    let b : sum n g ≡ sum m g + sum k (λ i. g (m + i)) = ap (λ (x : ℕ). sum x g) (omega arith) ∙ sum-split m k g in
+    let c : sum m (λ i. f (k + i)) ≡ sum m g = sum-ext m (λ i. f (k + i)) g (λ i l. ap f (omega arith) ∙ moved i (omega arith)) in
+    omega (arith, sum-zero k f low, sum-zero k (λ i. g (m + i)) (λ i l. high (m + i) (omega arith) (omega arith)))
+
+pub sum-eight : (n : ℕ) (a b c d e f g h : ℕ → ℕ)
+    → sum n (λ i. a i + b i + c i + d i + (e i + f i) + (g i + h i))
+    ≡ sum n a + sum n b + sum n c + sum n d + (sum n e + sum n f) + (sum n g + sum n h)
+unfolding sum
+sum-eight zero a b c d e f g h = refl
+sum-eight (suc n) a b c d e f g h = omega (arith, sum-eight n a b c d e f g h)
+
+-- a sum over the posts of a plot, row by row
+pub sum-rows : (rows columns : ℕ) → 0 < columns → (h : ℕ → ℕ → ℕ)
+    → sum (rows * columns) (λ p. h (p / columns) (p % columns)) ≡ sum rows (λ r. sum columns (h r))
+unfolding sum
+sum-rows zero columns k h = ap (λ (n : ℕ). sum n (λ p. h (p / columns) (p % columns))) (zero-mul columns)
+sum-rows (suc r) columns k h =
+    ap (λ (n : ℕ). sum n (λ p. h (p / columns) (p % columns))) (suc-mul r columns)
+    ∙ sum-split (r * columns) columns (λ p. h (p / columns) (p % columns))
+    ∙ ap₂ _+_ (sum-rows r columns k h)
+    (sum-ext columns (λ i. h ((r * columns + i) / columns) ((r * columns + i) % columns)) (h r)
+    (λ i m. ap₂ h (mul-add-div-right k r i ∙ omega (arith, div-eq-of-lt m)) (mul-add-mod-self-right r columns i ∙ mod-eq-of-lt m)))

@@ -20,6 +20,13 @@ use Rattle.surface.specs.declared.Size.{Size}
 abbrev pub answer : Verdict → Answer
 answer v = record { code = v .code; place = v .place }
 
+-- a line's entries at the front of its list, where it was accepted; later ones keep their content
+abbrev pub lineAnswer : Verdict → List ℕ → Entries
+lineAnswer v entries = record { code = v .code; place = v .place; count = settled v (length entries) 0 }
+
+abbrev pub lineList : Verdict → List ℕ → List ℕ → List ℕ
+lineList v entries list = settled v (entries ++ drop (length entries) list) list
+
 module _ (rows columns : ℕ) (hs : List ℤ) where
   -- survey(rows, columns, heights, marks)
   unfoldable pub surveyMarks : List ℕ → List ℕ
@@ -59,13 +66,7 @@ module _ (rows columns : ℕ) (hs : List ℤ) where
   unfoldable pub nextUpAnswer : ℕ → Next
   nextUpAnswer = nextAnswer (nextUp rows columns hs)
 
-  -- thalweg(rows, columns, heights, post, run, line), ridge(..): entries at the front of the list, later ones keep their content
-  abbrev pub lineAnswer : Verdict → List ℕ → Entries
-  lineAnswer v entries = record { code = v .code; place = v .place; count = settled v (length entries) 0 }
-
-  abbrev pub lineList : Verdict → List ℕ → List ℕ → List ℕ
-  lineList v entries list = settled v (entries ++ drop (length entries) list) list
-
+  -- thalweg(rows, columns, heights, post, run, line), ridge(..)
   abbrev pub thalwegVerdict : ℕ → ℕ → List ℕ → Verdict
   thalwegVerdict post run = lineVerdict rows columns hs (below hs) (thalweg rows columns hs post run) post run
 

@@ -9,4 +9,5 @@ pub mod SurveyFile
 pub mod Refusals
 pub mod Calls
 pub mod Series
+pub mod Demand
 pub mod Bench

@@ -2,7 +2,7 @@
 -- a line upward, which is a line in the reversed order; dales and hills likewise.
 use Prim.Native.Nat.{ℕ, zero, suc, _*_, _<_}
 use mathlib.Core.Path.{_≡_}
-use mathlib.Core.Bool.{Bool, true, false, cond, not, _||_}
+use mathlib.Core.Bool.{Bool, true, false, cond, not, _&&_, _||_}
 use mathlib.Core.List.{List, [], _∷_}
 use lib.Dec.{eqb}
 use lib.IntN.{ℤ}
@@ -11,6 +11,11 @@ use Rattle.surface.specs.Lists.{listOf, filter, any}
 use Rattle.surface.specs.Plot.{virtualPit, below, reversed}
 use Rattle.surface.specs.Edges.{lowest, lowerRuns}
 use Rattle.surface.specs.Marks.{ringOf}
+
+-- every entry after x is below the one before it
+unfoldable pub fallsFrom : (ℕ → ℕ → Bool) → ℕ → List ℕ → Bool
+fallsFrom lower x [] = true
+fallsFrom lower x (y ∷ l) = lower y x && fallsFrom lower y l
 
 module _ (lower : ℕ → ℕ → Bool) (ring : ℕ → List ℕ) (pick : ℕ → List ℕ → ℕ) where
   -- a walk ends at the virtual pit, and at a post that has no lower neighbour: downward a pit, upward (where it never meets the virtual pit) a peak

@@ -3,11 +3,10 @@ use Prim.Native.Nat.{ℕ, zero, suc, _+_, _*_}
 use mathlib.Core.Path.{_≡_}
 use mathlib.Core.Bool.{Bool, true, false, cond}
 use mathlib.Core.List.{List, [], _∷_}
-use lib.Dec.{T}
 use lib.IntN.{ℤ}
 use lib.ListN.{length, replicate, set}
-use Rattle.surface.specs.Refusals.{isAccepted, settled, reshootVerdict}
-use Rattle.surface.specs.Calls.{reshootHeights, reshootMarks}
+use Rattle.surface.specs.Refusals.{settled, reshootVerdict}
+use Rattle.surface.specs.Calls.{reshootHeights, reshootMarks, reshootAnswer}
 
 -- a re-shoot's arguments, the two lists left out
 pub record Reshoot : Type 0 where
@@ -37,7 +36,7 @@ afterAll s (c ∷ cs) = afterAll (after s c) cs
 unfoldable pub Kept : ℕ → ℕ → Sheet → List Reshoot → Type 0
 Kept rows columns s [] = Unit {0}
 Kept rows columns s (c ∷ cs) =
-    (T (isAccepted (reshootVerdict (c .rows) (c .columns) (s .heights) (s .marks) (c .post) (c .new))) → (c .rows ≡ rows) × (c .columns ≡ columns))
+    (reshootAnswer (c .rows) (c .columns) (s .heights) (s .marks) (c .post) (c .new) .code ≡ 0 → (c .rows ≡ rows) × (c .columns ≡ columns))
     × Kept rows columns (after s c) cs
 
 -- the plain list of heights kept next to it: as many marks stand for the lists lent

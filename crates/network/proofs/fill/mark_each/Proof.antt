@@ -1,0 +1,73 @@
+-- `network::fill::mark_each` meets its contract. The loop's invariant: i stores were made.
+use Prim.Native.Nat.{ℕ, _+_, _-_, _≤_, _<_}
+use native.Mathlib.Omega.{arith}
+use mathlib.Core.Path.{_≡_, refl, sym, _∙_}
+use lib.ListN.{length, length-set}
+use Rattle.surface.specs.Marks.{markAt}
+use Rattle.network.specs.Stores.{stores}
+use Rattle.network.proofs.Stores.{store-next}
+use Rattle.network.proofs.fill.mark_each.Statement.{statement}
+use Rattle.network.proofs.fill.mark_each.Tie as tie
+
+abbrev Inv-loop : tie.InvT-loop
+Inv-loop heights rows columns from n marks₀ i₀ marks i = (i ≤ n) × (length marks ≡ length marks₀) × (marks ≡ stores (markAt rows columns heights) from i marks₀)
+
+abbrev μ-loop : tie.MeasureT-loop
+μ-loop heights rows columns from n marks₀ i₀ marks i = n - i
+
+loop-holds : tie.Need-loop-holds Inv-loop μ-loop
+unfolding stores
+loop-holds c = (omega arith, refl, refl)
+
+add-mark-at : tie.Need-add-mark-at Inv-loop μ-loop
+add-mark-at c = omega arith
+
+mark-at-requires : tie.Need-mark-at-requires Inv-loop μ-loop
+mark-at-requires c κs = omega arith
+
+add-marks : tie.Need-add-marks Inv-loop μ-loop
+add-marks c = omega arith
+
+slice-write-marks : tie.Need-slice-write-marks Inv-loop μ-loop
+slice-write-marks c = omega arith
+
+add-i : tie.Need-add-i Inv-loop μ-loop
+add-i c = omega arith
+
+loop-less : tie.Need-loop-less Inv-loop μ-loop
+loop-less c = omega arith
+
+loop-again : tie.Need-loop-again Inv-loop μ-loop
+loop-again c =
+    let l = c .before .before .loop in
+    let a = c .before .before .before .before .args in (
+      omega arith,
+      length-set (l .marks) _ _ ∙ l .inv .1,
+      store-next _ (a .from) (l .i) (l .i + 1) (l .marks) (a .marks .now) (a .from + l .i) _ (l .inv .2) refl refl (c .mark-at .ensures),
+    )
+
+same-length : tie.Need-same-length Inv-loop μ-loop
+same-length c = c .before .loop .inv .1
+
+returns : tie.Need-returns Inv-loop μ-loop
+returns c =
+    let l = c .before .loop in
+    let e : l .i ≡ c .before .before .before .args .n = omega arith in
+    rw e at (l .inv .2)
+
+pub mark-each-spec : {M : Type 1} → statement M
+mark-each-spec =
+    tie.close
+    (tie.spec
+    Inv-loop
+    μ-loop
+    loop-holds
+    add-mark-at
+    mark-at-requires
+    add-marks
+    slice-write-marks
+    add-i
+    loop-less
+    loop-again
+    same-length
+    returns)

@@ -1,0 +1,3 @@
+-- What the parts of a call ask and give.
+pub mod Stores
+pub mod Rows

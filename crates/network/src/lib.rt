@@ -1,0 +1,2 @@
+// The calls over a whole plot.
+mod fill;

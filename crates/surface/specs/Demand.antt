@@ -1,0 +1,107 @@
+-- Demand 3 of the request, as one statement about a whole series: a field for each of its sentences, over the outcomes of the calls (Calls.antt).
+use Prim.Native.Nat.{ℕ, _+_, _*_, _≤_, _<_}
+use mathlib.Core.Path.{_≡_}
+use mathlib.Core.Logic.{_⊎_, _↔_}
+use mathlib.Core.Bool.{Bool, true, false}
+use mathlib.Core.List.{List, [], _∷_, List·Memᴰ}
+use lib.Dec.{eqb}
+use lib.IntN.{ℤ}
+use lib.ListN.{length, getD, take}
+use Rattle.surface.specs.Lists.{listOf, any, count, lastOr, one}
+use Rattle.surface.specs.Plot.{below, reversed, virtualPit}
+use Rattle.surface.specs.Edges.{Edge, throughLowest}
+use Rattle.surface.specs.Marks.{ringOf, marksOf}
+use Rattle.surface.specs.Lines.{fallsFrom, OnePiece}
+use Rattle.surface.specs.Calls.{surveyAnswer, surveyMarks, thalwegAnswer, thalwegList, ridgeAnswer, ridgeList, partsAnswer, partsDales, partsHills}
+use Rattle.surface.specs.Series.{Reshoot, Sheet, afterAll, Kept, plainAll}
+
+-- how many vertices of n posts and the virtual pit stand in a list
+unfoldable pub namesIn : ℕ → List ℕ → ℕ
+namesIn n l = count (λ w. any (λ x. eqb x w) l) (listOf (λ w. w) n) + one (any (λ x. eqb x virtualPit) l)
+
+-- exactly one w has the property
+pub record ExactlyOne (holds : ℕ → Type 0) : Type 0 where
+  pub it : ℕ
+  pub itHolds : holds it
+  pub noOther : (w : ℕ) → holds w → w ≡ it
+
+module _ (rows columns : ℕ) (hs : List ℤ) where
+  abbrev pub EdgeOf : ℕ → ℕ → Type 0
+  EdgeOf = Edge rows columns (throughLowest (below hs) columns)
+
+  -- pits and peaks, told by their rings; the virtual pit is a pit
+  abbrev pub IsPit : ℕ → Type 0
+  IsPit p = ((p < rows * columns) × (any (λ q. below hs q p) (ringOf rows columns hs p) ≡ false)) ⊎ (p ≡ virtualPit)
+
+  abbrev pub IsPeak : ℕ → Type 0
+  IsPeak p = (p < rows * columns) × (any (λ q. below hs p q) (ringOf rows columns hs p) ≡ false)
+
+  -- a line from `post`: each entry after it is lower (in the order given) than the one before, the last is an end, and a list of one entry more than
+  -- there are posts always has room for it
+  pub record LineOf (lower : ℕ → ℕ → Bool) (isEnd : ℕ → Type 0) (post : ℕ) (entries : List ℕ) : Type 0 where
+    pub after : List ℕ
+    pub starts : entries ≡ post ∷ after
+    pub falls : fallsFrom lower post after ≡ true
+    pub ends : isEnd (lastOr post after)
+    pub fits : length entries ≤ rows * columns + 1
+
+  -- the members of a dale and of a hill, by the filled lists; the virtual pit is a member of its own dale and of no hill
+  abbrev pub InDale : List ℕ → ℕ → ℕ → Type 0
+  InDale dales w p = ((p < rows * columns) × (getD dales p 0 ≡ w)) ⊎ ((p ≡ virtualPit) × (w ≡ virtualPit))
+
+  abbrev pub InHill : List ℕ → ℕ → ℕ → Type 0
+  InHill hills w p = (p < rows * columns) × (getD hills p 0 ≡ w)
+
+  -- what dales_and_hills leaves in lists of the right size
+  pub record Parted (dales hills : List ℕ) : Type 0 where
+    pub accepted : partsAnswer rows columns hs dales hills .code ≡ 0
+    -- every post lies in exactly one dale and one hill
+    pub oneDale : (p : ℕ) → p < rows * columns → ExactlyOne (λ w. IsPit w × InDale (partsDales rows columns hs dales hills) w p)
+    pub oneHill : (p : ℕ) → p < rows * columns → ExactlyOne (λ w. IsPeak w × InHill (partsHills rows columns hs dales hills) w p)
+    -- the names in the dale list are exactly the pits, those in the hill list exactly the peaks
+    pub daleNames : (w : ℕ) → List·Memᴰ w (partsDales rows columns hs dales hills) ↔ IsPit w
+    pub hillNames : (w : ℕ) → List·Memᴰ w (partsHills rows columns hs dales hills) ↔ IsPeak w
+    -- dales number the pits, hills the peaks, as a survey counts them
+    pub daleNumber : (lent : List ℕ) → length lent ≡ rows * columns
+        → namesIn (rows * columns) (partsDales rows columns hs dales hills) ≡ surveyAnswer rows columns hs lent .pits
+    pub hillNumber : (lent : List ℕ) → length lent ≡ rows * columns
+        → namesIn (rows * columns) (partsHills rows columns hs dales hills) ≡ surveyAnswer rows columns hs lent .peaks
+    -- each is in one piece along edges
+    pub dalePiece : (w : ℕ) → OnePiece EdgeOf (InDale (partsDales rows columns hs dales hills) w)
+    pub hillPiece : (w : ℕ) → OnePiece EdgeOf (InHill (partsHills rows columns hs dales hills) w)
+
+-- what a series leaves, from a survey of `hs`
+pub record Promised (rows columns : ℕ) (hs : List ℤ) (calls : List Reshoot) (left : Sheet) : Type 0 where
+  -- the heights are the surveyed ones with each accepted new height put in, in turn
+  pub heights : left .heights ≡ plainAll hs calls
+  -- the marks are exactly those of a fresh survey of them
+  pub marks : left .marks ≡ marksOf rows columns (left .heights)
+  pub fresh : (lent : List ℕ) → length lent ≡ rows * columns
+      → (surveyAnswer rows columns (left .heights) lent .code ≡ 0) × (surveyMarks rows columns (left .heights) lent ≡ left .marks)
+  -- in that survey's counts peaks plus pits, the virtual pit included, less saddles by multiplicity, make two
+  pub balance : (lent : List ℕ) → length lent ≡ rows * columns
+      → surveyAnswer rows columns (left .heights) lent .peaks + surveyAnswer rows columns (left .heights) lent .pits
+      ≡ 2 + surveyAnswer rows columns (left .heights) lent .saddles
+  -- every water line falls at every step in document 01's height order and ends at a pit
+  pub thalwegs : (post run : ℕ) (list : List ℕ) → thalwegAnswer rows columns (left .heights) post run list .code ≡ 0
+      → LineOf rows columns (left .heights) (below (left .heights)) (IsPit rows columns (left .heights)) post
+      (take (thalwegAnswer rows columns (left .heights) post run list .count) (thalwegList rows columns (left .heights) post run list))
+  -- every crest line rises so and ends at a peak
+  pub ridges : (post run : ℕ) (list : List ℕ) → ridgeAnswer rows columns (left .heights) post run list .code ≡ 0
+      → LineOf rows columns (left .heights) (reversed (below (left .heights))) (IsPeak rows columns (left .heights)) post
+      (take (ridgeAnswer rows columns (left .heights) post run list .count) (ridgeList rows columns (left .heights) post run list))
+  -- every post lies in exactly one dale and one hill; dales number the pits, hills the peaks, and each is in one piece along edges
+  pub parted : (dales hills : List ℕ) → length dales ≡ rows * columns → length hills ≡ rows * columns → Parted rows columns (left .heights) dales hills
+
+-- the sheet as a survey left it
+abbrev pub surveyed : ℕ → ℕ → List ℤ → List ℕ → Sheet
+surveyed rows columns hs marks = record { heights = hs; marks = surveyMarks rows columns hs marks }
+
+-- Take any accepted survey and any series of re-shoots after it, accepted and turned away in any order, the accepted ones with the survey's rows and
+-- columns.
+abbrev pub Demand3 : Type 0
+Demand3 =
+    (rows columns : ℕ) (hs : List ℤ) (marks : List ℕ) (calls : List Reshoot)
+    → surveyAnswer rows columns hs marks .code ≡ 0
+    → Kept rows columns (surveyed rows columns hs marks) calls
+    → Promised rows columns hs calls (afterAll (surveyed rows columns hs marks) calls)

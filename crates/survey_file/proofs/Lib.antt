@@ -1,0 +1,3 @@
+-- Laws on plain numbers and lists, for the proofs of this crate.
+mod Numbers
+mod Stores
