@@ -1,4 +1,4 @@
--- What the leaves ask of their arguments.
+-- What the leaves ask of their arguments, and what they work out on the way to a mark or a next post.
 pub mod Fits
 pub mod Borders
 pub mod Signs
