@@ -4,3 +4,6 @@ pub mod Diagonal
 pub mod Round
 pub mod Extreme
 pub mod Steps
+pub mod Sizes
+pub mod Stores
+pub mod Rows

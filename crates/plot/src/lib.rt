@@ -4,5 +4,6 @@ pub mod cell;
 pub mod limits;
 pub mod mark;
 pub mod next;
+pub mod row;
 pub mod side;
 pub mod sign;

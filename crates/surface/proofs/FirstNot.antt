@@ -75,3 +75,12 @@ unfolding all
 all-set s [] i x h k = refl
 all-set s (y ∷ l) zero x h k = rw k (and-right (s y) (all s l) h)
 all-set s (y ∷ l) (suc i) x h k = rw (and-left (s y) (all s l) h) (all-set s l i x (and-right (s y) (all s l) h) k)
+
+-- a scan of a whole list
+pub all-pass : {A : Type 0} (s : A → Bool) (l : List A) (i : ℕ) (d : A) → i < length l → all s (drop i l) ≡ (s (getD l i d) && all s (drop (i + 1) l))
+unfolding all
+all-pass s l i d h = rw (add-one, drop-cons l i d)
+
+pub all-end : {A : Type 0} (s : A → Bool) (l : List A) (i : ℕ) → length l ≤ i → all s (drop i l) ≡ true
+unfolding all
+all-end s l i h = rw drop-of-length-le

@@ -43,42 +43,41 @@ rowOf code holds = record { holds = holds; code = code; place = 0 }
 abbrev pub isNot : {A : Type 0} → List A → ℕ → Bool
 isNot l n = not (eqb (length l) n)
 
-module _ (rows columns : ℕ) where
-  -- 1: rows or columns outside 2 to 120
-  abbrev pub row1 : Row
-  row1 = rowOf 1 (not (isSide rows && isSide columns))
+-- 1: rows or columns outside 2 to 120
+abbrev pub row1 : ℕ → ℕ → Row
+row1 rows columns = rowOf 1 (not (isSide rows && isSide columns))
 
-  -- 2: heights lent to be read are not rows times columns
-  abbrev pub row2 : List ℤ → Row
-  row2 hs = rowOf 2 (isNot hs (rows * columns))
+-- 2: heights lent to be read are not rows times columns
+abbrev pub row2 : ℕ → ℕ → List ℤ → Row
+row2 rows columns hs = rowOf 2 (isNot hs (rows * columns))
 
-  -- 3: another lent list is not exactly its size
-  abbrev pub row3 : {A : Type 0} → List A → ℕ → Row
-  row3 l n = rowOf 3 (isNot l n)
+-- 3: another lent list is not exactly its size
+abbrev pub row3 : {A : Type 0} → List A → ℕ → Row
+row3 l size = rowOf 3 (isNot l size)
 
-  -- 4: a height outside its range; the place is the first such post
-  abbrev pub row4 : (ℤ → Bool) → List ℤ → Row
-  row4 isIn hs = record { holds = ltb (firstNot isIn hs) (length hs); code = 4; place = firstNot isIn hs }
+-- 4: a held or filed height outside its range; the place is the first such post
+abbrev pub row4 : (ℤ → Bool) → List ℤ → Row
+row4 isIn hs = record { holds = ltb (firstNot isIn hs) (length hs); code = 4; place = firstNot isIn hs }
 
-  -- 5: post number not below rows times columns
-  abbrev pub row5 : ℕ → Row
-  row5 post = rowOf 5 (not (ltb post (rows * columns)))
+-- 5: post number not below rows times columns
+abbrev pub row5 : ℕ → ℕ → ℕ → Row
+row5 rows columns post = rowOf 5 (not (ltb post (rows * columns)))
 
-  -- 6: new height outside its range
-  abbrev pub row6 : ℤ → Row
-  row6 new = rowOf 6 (not (isHeight new))
+-- 6: new height outside its range
+abbrev pub row6 : ℤ → Row
+row6 new = rowOf 6 (not (isHeight new))
 
-  -- 7: a line of a post that is no saddle
-  abbrev pub row7 : List ℤ → ℕ → Row
-  row7 hs post = rowOf 7 (ltb (markAt rows columns hs post) 3)
+-- 7: a line of a post that is no saddle
+abbrev pub row7 : ℕ → ℕ → List ℤ → ℕ → Row
+row7 rows columns hs post = rowOf 7 (ltb (markAt rows columns hs post) 3)
 
-  -- 8: run number not below the post's runs of that sort
-  abbrev pub row8 : (ℕ → ℕ → Bool) → List ℤ → ℕ → ℕ → Row
-  row8 lower hs post run = rowOf 8 (not (ltb run (length (lowerRuns lower (ringOf rows columns hs) post))))
+-- 8: run number not below the post's runs of that sort: the lower ones, or the upper ones, which are lower in the reversed order
+abbrev pub row8 : ℕ → ℕ → (ℕ → ℕ → Bool) → List ℤ → ℕ → ℕ → Row
+row8 rows columns lower hs post run = rowOf 8 (not (ltb run (length (lowerRuns lower (ringOf rows columns hs) post))))
 
-  -- 9: the line has more entries than its list
-  abbrev pub row9 : List ℕ → List ℕ → Row
-  row9 entries list = rowOf 9 (ltb (length list) (length entries))
+-- 9: the line has more entries than its list
+abbrev pub row9 : List ℕ → List ℕ → Row
+row9 entries list = rowOf 9 (ltb (length list) (length entries))
 
 -- 10: file under 7 bytes
 abbrev pub row10 : List ℕ → Row
@@ -97,21 +96,21 @@ row12 file rows columns =
 module _ (rows columns : ℕ) (hs : List ℤ) where
   unfoldable pub surveyVerdict : List ℕ → Verdict
   surveyVerdict marks =
-      verdict (row1 rows columns ∷ row2 rows columns hs ∷ row3 rows columns marks (rows * columns) ∷ row4 rows columns isHeight hs ∷ [])
+      verdict (row1 rows columns ∷ row2 rows columns hs ∷ row3 marks (rows * columns) ∷ row4 isHeight hs ∷ [])
 
   unfoldable pub reshootVerdict : List ℕ → ℕ → ℤ → Verdict
   reshootVerdict marks post new =
       verdict
       (row1 rows columns
       ∷ row2 rows columns hs
-      ∷ row3 rows columns marks (rows * columns)
-      ∷ row4 rows columns isHeight hs
+      ∷ row3 marks (rows * columns)
+      ∷ row4 isHeight hs
       ∷ row5 rows columns post
-      ∷ row6 rows columns new
+      ∷ row6 new
       ∷ [])
 
   unfoldable pub nextVerdict : ℕ → Verdict
-  nextVerdict post = verdict (row1 rows columns ∷ row2 rows columns hs ∷ row4 rows columns isHeight hs ∷ row5 rows columns post ∷ [])
+  nextVerdict post = verdict (row1 rows columns ∷ row2 rows columns hs ∷ row4 isHeight hs ∷ row5 rows columns post ∷ [])
 
   -- of a line in the order `lower` whose entries are `entries`
   unfoldable pub lineVerdict : (ℕ → ℕ → Bool) → List ℕ → ℕ → ℕ → List ℕ → Verdict
@@ -119,11 +118,11 @@ module _ (rows columns : ℕ) (hs : List ℤ) where
       verdict
       (row1 rows columns
       ∷ row2 rows columns hs
-      ∷ row4 rows columns isHeight hs
+      ∷ row4 isHeight hs
       ∷ row5 rows columns post
       ∷ row7 rows columns hs post
       ∷ row8 rows columns lower hs post run
-      ∷ row9 rows columns entries list
+      ∷ row9 entries list
       ∷ [])
 
   unfoldable pub partsVerdict : List ℕ → List ℕ → Verdict
@@ -132,7 +131,7 @@ module _ (rows columns : ℕ) (hs : List ℤ) where
       (row1 rows columns
       ∷ row2 rows columns hs
       ∷ rowOf 3 (isNot dales (rows * columns) || isNot hills (rows * columns))
-      ∷ row4 rows columns isHeight hs
+      ∷ row4 isHeight hs
       ∷ [])
 
   unfoldable pub writeVerdict : List ℕ → Verdict
@@ -140,8 +139,8 @@ module _ (rows columns : ℕ) (hs : List ℤ) where
       verdict
       (row1 rows columns
       ∷ row2 rows columns hs
-      ∷ row3 rows columns file (fileSize rows columns)
-      ∷ row4 rows columns isHeight hs
+      ∷ row3 file (fileSize rows columns)
+      ∷ row4 isHeight hs
       ∷ [])
 
 -- of reading a file into a list that receives the heights
@@ -154,6 +153,6 @@ readVerdict file hs =
     ∷ row11 file
     ∷ row1 rows columns
     ∷ row12 file rows columns
-    ∷ row3 rows columns hs (rows * columns)
-    ∷ row4 rows columns isTenths (tenthsOf file (rows * columns))
+    ∷ row3 hs (rows * columns)
+    ∷ row4 isTenths (tenthsOf file (rows * columns))
     ∷ [])

@@ -27,8 +27,8 @@ rows file hs =
     ∷ row11 file
     ∷ row1 (rowsIn file) (columnsIn file)
     ∷ row12 file (rowsIn file) (columnsIn file)
-    ∷ row3 (rowsIn file) (columnsIn file) hs (postsIn file)
-    ∷ row4 (rowsIn file) (columnsIn file) isTenths (tenthsOf file (postsIn file))
+    ∷ row3 hs (postsIn file)
+    ∷ row4 isTenths (tenthsOf file (postsIn file))
     ∷ []
 
 -- n of them do not hold

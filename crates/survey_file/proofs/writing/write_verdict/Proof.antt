@@ -23,8 +23,8 @@ rows s =
     let a = s .args in
     row1 (a .rows) (a .columns)
     ∷ row2 (a .rows) (a .columns) (a .heights .now)
-    ∷ row3 (a .rows) (a .columns) (a .file .now) (fileSize (a .rows) (a .columns))
-    ∷ row4 (a .rows) (a .columns) isHeight (a .heights .now)
+    ∷ row3 (a .file .now) (fileSize (a .rows) (a .columns))
+    ∷ row4 isHeight (a .heights .now)
     ∷ []
 
 -- n of them do not hold

@@ -1,4 +1,4 @@
--- `network::fill::mark_rows` meets its contract. The loop's invariant: the rows above row r are marked, and the diagonals just above it are told.
+-- `survey::fill::mark_rows` meets its contract. The loop's invariant: the rows above row r are marked, and the diagonals just above it are told.
 use Prim.Native.Nat.{ℕ, _+_, _-_, _*_, _≤_, _<_}
 use native.Mathlib.Omega.{arith}
 use mathlib.Core.Path.{_≡_, refl, sym, _∙_}
@@ -6,12 +6,12 @@ use borrow.Author.Needs.{needs}
 use lib.ListN.{length}
 use native.Mathlib.Nat.{one-mul}
 use Rattle.surface.specs.Marks.{markAt}
-use Rattle.network.specs.Stores.{stores}
-use Rattle.network.specs.Rows.{Falls}
-use Rattle.network.proofs.Stores.{stores-join}
-use Rattle.network.proofs.Rows.{fits-small, fits-two, row-room, row-inner}
-use Rattle.network.proofs.fill.mark_rows.Statement.{statement}
-use Rattle.network.proofs.fill.mark_rows.Tie as tie
+use Rattle.plot.specs.Stores.{stores}
+use Rattle.plot.specs.Rows.{Falls}
+use Rattle.plot.proofs.Stores.{stores-join}
+use Rattle.plot.proofs.Rows.{fits-small, fits-two, row-room, row-inner}
+use Rattle.survey.proofs.fill.mark_rows.Statement.{statement}
+use Rattle.survey.proofs.fill.mark_rows.Tie as tie
 
 abbrev Inv-loop : tie.InvT-loop
 Inv-loop heights rows columns marks₀ above₀ here₀ r₀ marks above here r =

@@ -1,13 +1,13 @@
--- `network::fill::mark_each` meets its contract. The loop's invariant: i stores were made.
+-- `survey::fill::mark_each` meets its contract. The loop's invariant: i stores were made.
 use Prim.Native.Nat.{ℕ, _+_, _-_, _≤_, _<_}
 use native.Mathlib.Omega.{arith}
 use mathlib.Core.Path.{_≡_, refl, sym, _∙_}
 use lib.ListN.{length, length-set}
 use Rattle.surface.specs.Marks.{markAt}
-use Rattle.network.specs.Stores.{stores}
-use Rattle.network.proofs.Stores.{store-next}
-use Rattle.network.proofs.fill.mark_each.Statement.{statement}
-use Rattle.network.proofs.fill.mark_each.Tie as tie
+use Rattle.plot.specs.Stores.{stores}
+use Rattle.plot.proofs.Stores.{store-next}
+use Rattle.survey.proofs.fill.mark_each.Statement.{statement}
+use Rattle.survey.proofs.fill.mark_each.Tie as tie
 
 abbrev Inv-loop : tie.InvT-loop
 Inv-loop heights rows columns from n marks₀ i₀ marks i = (i ≤ n) × (length marks ≡ length marks₀) × (marks ≡ stores (markAt rows columns heights) from i marks₀)

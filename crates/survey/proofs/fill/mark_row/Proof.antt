@@ -1,12 +1,12 @@
--- `network::fill::mark_row` meets its contract: three rows of stores, one after the other.
+-- `survey::fill::mark_row` meets its contract: three rows of stores, one after the other.
 use Prim.Native.Nat.{_+_, _-_}
 use native.Mathlib.Omega.{arith}
 use mathlib.Core.Path.{refl}
 use borrow.Author.Needs.{needs}
 use Rattle.surface.specs.Marks.{markAt}
-use Rattle.network.proofs.Stores.{stores-join}
-use Rattle.network.proofs.fill.mark_row.Statement.{statement}
-use Rattle.network.proofs.fill.mark_row.Tie as tie
+use Rattle.plot.proofs.Stores.{stores-join}
+use Rattle.survey.proofs.fill.mark_row.Statement.{statement}
+use Rattle.survey.proofs.fill.mark_row.Tie as tie
 
 mark-each-requires : tie.Need-mark-each-requires
 mark-each-requires c κs = search needs

@@ -1,28 +1,13 @@
 // The marks of a whole plot, a row at a time. The diagonals of the cells below a row are worked out once, and serve the row below it too.
-use plot::cell;
 use plot::mark;
+use plot::row::falls_row;
 ghost use mathlib.Core.Path.{_≡_};
 ghost use Prim.Native.Nat.{ℕ, _+_, _-_, _*_, _≤_, _<_};
 ghost use lib.ListN.{length, getD};
-ghost use mathlib.Core.Bool.{false};
-ghost use Rattle.surface.specs.Plot.{below};
-ghost use Rattle.surface.specs.Edges.{throughLowest};
 ghost use Rattle.surface.specs.Marks.{markAt, marksOf};
 ghost use Rattle.plot.specs.Fits.{Fits};
-ghost use Rattle.network.specs.Stores.{stores};
-ghost use Rattle.network.specs.Rows.{Falls, Inner};
-
-// Whether the diagonals fall in the cells whose top left posts are `base` and those after it in its row.
-fn falls_row(heights: &[i32], columns: usize, base: usize, falls: &mut [bool])
-    requires { ⌜ (columns ≤ length (now falls)) × (2 ≤ columns) × (columns ≤ 120) × (base + columns + columns ≤ length (now heights)) × (length (now heights) ≤ 14400) ⌝ }
-    ensures { λ _. ⌜ Falls (now (heights .entry)) columns base (now (falls .exit)) ⌝ }
-{
-    let mut c = 0;
-    while c + 1 < columns {
-        falls[c] = cell::falls(heights, columns, base + c);
-        c += 1;
-    }
-}
+ghost use Rattle.plot.specs.Stores.{stores};
+ghost use Rattle.plot.specs.Rows.{Inner};
 
 // The marks of the posts of a row that is neither the top nor the bottom one, without its two ends.
 fn mark_inner(
@@ -107,5 +92,12 @@ pub(crate) fn mark_plot(heights: &[i32], rows: usize, columns: usize, marks: &mu
 {
     mark_each(heights, rows, columns, 0, columns, marks);
     mark_rows(heights, rows, columns, marks);
-    mark_each(heights, rows, columns, rows * columns - columns, columns, marks);
+    mark_each(
+        heights,
+        rows,
+        columns,
+        rows * columns - columns,
+        columns,
+        marks,
+    );
 }

@@ -1,14 +1,14 @@
--- `network::fill::mark_inner` meets its contract. The loop's invariant: c - 1 stores were made.
+-- `survey::fill::mark_inner` meets its contract. The loop's invariant: c - 1 stores were made.
 use Prim.Native.Nat.{ℕ, _+_, _-_, _≤_, _<_}
 use native.Mathlib.Omega.{arith}
 use mathlib.Core.Path.{_≡_, refl, sym, _∙_}
 use lib.ListN.{length, length-set}
 use Rattle.surface.specs.Marks.{markAt}
-use Rattle.network.specs.Stores.{stores}
-use Rattle.network.proofs.Stores.{store-next}
-use Rattle.network.proofs.Rows.{inner-inside}
-use Rattle.network.proofs.fill.mark_inner.Statement.{statement}
-use Rattle.network.proofs.fill.mark_inner.Tie as tie
+use Rattle.plot.specs.Stores.{stores}
+use Rattle.plot.proofs.Stores.{store-next}
+use Rattle.plot.proofs.Rows.{inner-inside}
+use Rattle.survey.proofs.fill.mark_inner.Statement.{statement}
+use Rattle.survey.proofs.fill.mark_inner.Tie as tie
 
 abbrev Inv-loop : tie.InvT-loop
 Inv-loop heights rows columns base above here marks₀ c₀ marks c = (1 ≤ c) × (c + 1 ≤ columns) × (length marks ≡ length marks₀) × (marks ≡ stores (markAt rows columns heights) (base + 1) (c - 1) marks₀)

@@ -10,9 +10,9 @@ use lib.ListN.{getD}
 use Rattle.surface.specs.Plot.{below, column as place}
 use Rattle.surface.specs.Edges.{isBorder, throughLowest}
 use Rattle.surface.proofs.Grid.{Sides, row-fits, column-is, top-false, bottom-false, first-false, last-false}
 use Rattle.plot.specs.Fits.{Fits}
 use Rattle.plot.specs.Signs.{Inside}
-use Rattle.network.specs.Rows.{Falls, Inner}
+use Rattle.plot.specs.Rows.{Falls, Inner}
 
 pub fits-sides : {rows columns : ℕ} {hs : List ℤ} → Fits rows columns hs → Sides rows columns
 fits-sides f = record { tall = f .rowsLow; wide = f .columnsLow }
@@ -61,7 +61,7 @@ row-room {rows} {columns} r h k = (
 )
 
 pub row-inner : {rows columns : ℕ} {hs : List ℤ} {above here : List Bool} (r : ℕ) → Fits rows columns hs → 1 ≤ r → r + 1 < rows
-  → Falls hs columns (r * columns - columns) above → Falls hs columns (r * columns) here → Inner rows columns hs (r * columns) above here
+    → Falls hs columns (r * columns - columns) above → Falls hs columns (r * columns) here → Inner rows columns hs (r * columns) above here
 row-inner r f h k a b =
     let m = row-room r h k in
     record { fits = f; r = r; start = refl; under = m .0; room = m .1; small = fits-small f; aboveFalls = a; hereFalls = b }

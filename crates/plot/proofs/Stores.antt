@@ -10,7 +10,7 @@ use lib.ListN.{length, getD, set, drop, length-set}
 use lib.Seq.{getD-set-same, getD-set-other, ext-getD}
 use Rattle.surface.specs.Lists.{listOf}
 use Rattle.surface.proofs.ListOf.{length-listOf, getD-listOf}
-use Rattle.network.specs.Stores.{stores}
+use Rattle.plot.specs.Stores.{stores}
 
 module _ {A : Type 0} (f : ℕ → A) where
   pub length-stores : (from n : ℕ) (l : List A) → length (stores f from n l) ≡ length l

@@ -1,4 +1,4 @@
--- `network::fill::falls_row` meets its contract. The loop's invariant: the list tells of the cells passed.
+-- `plot::row::falls_row` meets its contract. The loop's invariant: the list tells of the cells passed.
 use Prim.Native.Nat.{ℕ, _+_, _-_, _≤_, _<_}
 use native.Mathlib.Omega.{arith}
 use mathlib.Core.Path.{_≡_, refl, _∙_}
@@ -6,9 +6,9 @@ use mathlib.Core.Bool.{false}
 use lib.ListN.{length, getD, length-set}
 use Rattle.surface.specs.Plot.{below}
 use Rattle.surface.specs.Edges.{throughLowest}
-use Rattle.network.proofs.Stores.{told-more}
-use Rattle.network.proofs.fill.falls_row.Statement.{statement}
-use Rattle.network.proofs.fill.falls_row.Tie as tie
+use Rattle.plot.proofs.Stores.{told-more}
+use Rattle.plot.proofs.row.falls_row.Statement.{statement}
+use Rattle.plot.proofs.row.falls_row.Tie as tie
 
 abbrev Inv-loop : tie.InvT-loop
 Inv-loop heights columns base falls₀ c₀ falls c =

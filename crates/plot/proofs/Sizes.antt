@@ -1,0 +1,60 @@
+-- Rows 1 and 2 of the table, case by case, and row 4.
+use Prim.Native.Nat.{ℕ, _*_, _≤_}
+use native.Mathlib.Omega.{arith}
+use mathlib.Core.Path.{_≡_, refl, sym, _∙_, ap}
+use mathlib.Core.Bool.{Bool, true, false, not, _&&_}
+use mathlib.Core.List.{List, [], _∷_}
+use borrow.Author.Tests.{leb-true, eq-eqb, ne-eqb, lt-ltb, le-ltb}
+use lib.Dec.{leb}
+use lib.IntN.{ℤ}
+use lib.ListN.{length}
+use Rattle.surface.specs.Lists.{all, firstNot}
+use Rattle.surface.specs.Plot.{isSide, isHeight}
+use Rattle.surface.specs.Refusals.{verdict, row4}
+use Rattle.surface.proofs.Bools.{and-left, and-right, either}
+use Rattle.surface.proofs.FirstNot.{all-firstNot, ranged-all, firstNot-le}
+use Rattle.surface.proofs.Verdicts.{row-holds, row-passed, none-left}
+use Rattle.plot.specs.Fits.{Fits}
+use Rattle.plot.specs.Limits.{Sized}
+
+module _ (rows columns : ℕ) (hs : List ℤ) where
+  pub sized-1 : isSide rows && isSide columns ≡ false → Sized rows columns hs 1
+  sized-1 h =
+      record { refuses = λ _ rest. row-holds _ _ (ap not h); passes = λ e. absurd (omega arith); fits = λ e. absurd (omega arith) }
+
+  pub sized-2 : isSide rows && isSide columns ≡ true → (length hs ≡ rows * columns → ⊥) → Sized rows columns hs 2
+  sized-2 h k =
+      record {
+        refuses = λ _ rest. row-passed _ _ (ap not h) ∙ row-holds _ _ (ap not (ne-eqb _ _ k));
+        passes = λ e. absurd (omega arith);
+        fits = λ e. absurd (omega arith);
+      }
+
+  pub sized-0 : isSide rows && isSide columns ≡ true → length hs ≡ rows * columns → Sized rows columns hs 0
+  sized-0 h k =
+      let r = and-left (isSide rows) (isSide columns) h in
+      let c = and-right (isSide rows) (isSide columns) h in
+      record {
+        refuses = λ n. absurd (n refl);
+        passes = λ _ rest. row-passed _ _ (ap not h) ∙ row-passed _ _ (ap not (eq-eqb _ _ k));
+        fits =
+            λ _.
+            record {
+              rowsLow = leb-true _ _ (and-left (leb 2 rows) (leb rows 120) r);
+              rowsHigh = leb-true _ _ (and-right (leb 2 rows) (leb rows 120) r);
+              columnsLow = leb-true _ _ (and-left (leb 2 columns) (leb columns 120) c);
+              columnsHigh = leb-true _ _ (and-right (leb 2 columns) (leb columns 120) c);
+              size = k;
+            };
+      }
+
+-- row 4 by itself
+pub range-passed : (hs : List ℤ) → all isHeight hs ≡ true → verdict (row4 isHeight hs ∷ []) ≡ record { code = 0; place = 0 }
+range-passed hs h =
+    row-passed _ _ (rw (all-firstNot isHeight hs h) (le-ltb (length hs) (length hs) (omega arith))) ∙ none-left
+
+pub range-holds : (hs : List ℤ) → all isHeight hs ≡ false → verdict (row4 isHeight hs ∷ []) ≡ record { code = 4; place = firstNot isHeight hs }
+range-holds hs h = row-holds _ _ (either _ (λ e. e) (λ e. absurd (clash (sym (ranged-all isHeight hs e) ∙ h))))
+  where
+    clash : true ≡ false → ⊥
+    clash e = let z : _≡_ {A = ℕ} 0 1 = cc in omega arith
