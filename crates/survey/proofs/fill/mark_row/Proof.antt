@@ -29,15 +29,16 @@ same-length c = search needs
 returns : tie.Need-returns
 returns c =
     let m = c .before .before in
-    let i = m .before .before .before .before .before in
+    let i = m .before .before .before .before in
     let e = i .before .before .before .before in
-    let a = e .before .before .before .before .args in
+    let a = e .before .before .before .before .before .args in
+    let w = e .before .before .before .before .before .pre .0 .fits .columnsLow in
     let f = markAt (a .rows) (a .columns) (a .heights .now) in
     stores-join f (a .base) (1 + (a .columns - 2)) (a .base + (a .columns - 1)) 1 (a .columns) (a .marks .now) _ _
     (stores-join f (a .base) 1 (a .base + 1) (a .columns - 2) (1 + (a .columns - 2)) (a .marks .now) _ _ (e .mark-each .ensures) (i .mark-inner .ensures) refl refl)
     (m .mark-each2 .ensures)
-    (omega arith)
-    (omega arith)
+    (omega (arith, w))
+    (omega (arith, w))
 
 pub mark-row-spec : {M : Type 1} → statement M
 mark-row-spec =
