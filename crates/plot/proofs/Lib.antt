@@ -1,4 +1,5 @@
 -- Laws about one post, which the leaves' proofs cite.
+pub mod Flags
 pub mod Order
 pub mod Diagonal
 pub mod Round

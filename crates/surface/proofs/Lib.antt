@@ -3,6 +3,7 @@ pub mod Bools
 pub mod Sum
 pub mod ListOf
 pub mod FirstNot
+pub mod Scans
 pub mod Grid
 pub mod Cells
 pub mod Order

@@ -1,2 +1,3 @@
-// The calls over a whole plot.
+// The two calls that write marks: survey and re-shoot.
 mod fill;
+mod tally;

@@ -1,0 +1,102 @@
+-- `survey::tally::count` meets its contract. The loop's invariant: each count is what was passed, and what is left makes up the rest.
+use Prim.Native.Nat.{ℕ, _+_, _-_, _*_, _≤_}
+use native.Mathlib.Omega.{arith}
+use mathlib.Core.Path.{_≡_, refl}
+use mathlib.Core.Bool.{Bool}
+use mathlib.Core.List.{List, map}
+use borrow.Author.Needs.{needs}
+use lib.Dec.{eqb}
+use lib.ListN.{length, drop, getD}
+use Rattle.surface.specs.Lists.{count, total}
+use Rattle.surface.specs.Marks.{multiplicity, peaks, pits, saddles}
+use Rattle.surface.proofs.Scans.{count-pass, count-end, total-pass, total-end}
+use Rattle.survey.specs.Tally.{Counted}
+use Rattle.survey.proofs.tally.count.Statement.{statement}
+use Rattle.survey.proofs.tally.count.Tie as tie
+
+abbrev Inv-loop : tie.InvT-loop
+Inv-loop marks peaks₀ pits₀ saddles₀ i₀ peaks pits saddles i =
+    (peaks + count (λ m. eqb m 1) (drop i marks) ≡ count (λ m. eqb m 1) marks)
+    × (pits + count (λ m. eqb m 2) (drop i marks) ≡ 1 + count (λ m. eqb m 2) marks)
+    × (saddles + total (map multiplicity (drop i marks)) ≡ total (map multiplicity marks))
+    × (peaks ≤ i)
+    × (pits ≤ i + 1)
+    × (saddles ≤ 255 * i)
+    × (i ≤ length marks)
+
+abbrev μ-loop : tie.MeasureT-loop
+μ-loop marks peaks₀ pits₀ saddles₀ i₀ peaks pits saddles i = length marks - i
+
+loop-holds : tie.Need-loop-holds Inv-loop μ-loop
+loop-holds c = omega arith
+
+shared-slice-read-m : tie.Need-shared-slice-read-m Inv-loop μ-loop
+shared-slice-read-m c = omega arith
+
+is-requires : tie.Need-is-requires Inv-loop μ-loop
+is-requires c κs = omega arith
+
+add-peaks : tie.Need-add-peaks Inv-loop μ-loop
+add-peaks c = omega arith
+
+is-requires-2 : tie.Need-is-requires-2 Inv-loop μ-loop
+is-requires-2 c κs = omega arith
+
+add-pits : tie.Need-add-pits Inv-loop μ-loop
+add-pits c = omega arith
+
+times-requires : tie.Need-times-requires Inv-loop μ-loop
+times-requires c κs = omega arith
+
+add-saddles : tie.Need-add-saddles Inv-loop μ-loop
+add-saddles c = omega arith
+
+add-i : tie.Need-add-i Inv-loop μ-loop
+add-i c = omega arith
+
+loop-less : tie.Need-loop-less Inv-loop μ-loop
+loop-less c = omega arith
+
+loop-again : tie.Need-loop-again Inv-loop μ-loop
+loop-again c =
+    let i = c .before .before .before .before in
+    let l = i .before in
+    let ms = l .before .before .args .marks .now in
+    let k = l .loop .i in
+    omega
+    (arith,
+    count-pass ms k (λ m. eqb m 1) 0 (i .loop-test .taken),
+    count-pass ms k (λ m. eqb m 2) 0 (i .loop-test .taken),
+    total-pass ms k multiplicity 0 (i .loop-test .taken))
+
+returns : tie.Need-returns Inv-loop μ-loop
+unfolding peaks pits saddles
+returns c =
+    let l = c .before in
+    let ms = l .before .before .args .marks .now in
+    let k = l .loop .i in
+    let e = c .loop-test .left in
+    record {
+      peaksAre = omega (arith, count-end ms k (λ m. eqb m 1) e);
+      pitsAre = omega (arith, count-end ms k (λ m. eqb m 2) e);
+      saddlesAre = omega (arith, total-end ms k multiplicity e)
+    }
+
+pub count-spec : {M : Type 1} → statement M
+count-spec =
+    tie.close
+    (tie.spec
+    Inv-loop
+    μ-loop
+    loop-holds
+    shared-slice-read-m
+    is-requires
+    add-peaks
+    is-requires-2
+    add-pits
+    times-requires
+    add-saddles
+    add-i
+    loop-less
+    loop-again
+    returns)

@@ -1,0 +1,2 @@
+-- What the parts of a call give each other.
+pub mod Tally
