@@ -13,6 +13,7 @@ use Rattle.surface.specs.Plot.{isSide, isHeight}
 use Rattle.surface.specs.Refusals.{verdict, row4}
 use Rattle.surface.proofs.Bools.{and-left, and-right, either}
 use Rattle.surface.proofs.FirstNot.{all-firstNot, ranged-all, firstNot-le}
+use Rattle.surface.proofs.Accepted.{Plotted}
 use Rattle.surface.proofs.Verdicts.{row-holds, row-passed, none-left}
 use Rattle.plot.specs.Fits.{Fits}
 use Rattle.plot.specs.Limits.{Sized}
@@ -58,3 +59,7 @@ range-holds hs h = row-holds _ _ (either _ (λ e. e) (λ e. absurd (clash (sym (
   where
     clash : true ≡ false → ⊥
     clash e = let z : _≡_ {A = ℕ} 0 1 = cc in omega arith
+
+-- what a call takes for a plot fits
+pub plotted-fits : (rows columns : ℕ) (hs : List ℤ) → Plotted rows columns hs → Fits rows columns hs
+plotted-fits rows columns hs p = sized-0 rows columns hs (rw (p .rowsFit, p .columnsFit)) (p .size) .fits refl

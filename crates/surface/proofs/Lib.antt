@@ -24,6 +24,7 @@ pub mod Locality
 pub mod Verdicts
 pub mod SurveyFile
 pub mod Accepted
+pub mod MarkCalls
 pub mod FileCalls
 pub mod RoundTrip
 pub mod Series

@@ -1,9 +1,9 @@
 -- The table of refusals: a number is returned exactly if its row is the first that holds, and a call is accepted exactly if no row holds.
 use Prim.Native.Nat.{ℕ, _<_}
 use native.Mathlib.Omega.{arith}
-use mathlib.Core.Path.{_≡_, refl}
+use mathlib.Core.Path.{_≡_, refl, ap}
 use mathlib.Core.Bool.{Bool, true, false, cond, _&&_}
-use mathlib.Core.List.{List, [], _∷_}
+use mathlib.Core.List.{List, [], _∷_, _++_}
 use lib.Dec.{T, ltb, ltb→lt}
 use Rattle.surface.specs.Refusals.{Row, verdict}
 
@@ -71,3 +71,22 @@ pub clear-accepted : (rs : List Row) → Clear rs → verdict rs ≡ record { co
 unfolding verdict
 clear-accepted [] c = refl
 clear-accepted (r ∷ rs) c = rw (c .0) (clear-accepted rs (c .1))
+
+-- rows looked at after others: they count only where none of those holds
+pub verdict-stays : (rs more : List Row) → (verdict rs .code ≡ 0 → ⊥) → verdict (rs ++ more) ≡ verdict rs
+unfolding verdict
+verdict-stays [] more h = absurd (h refl)
+verdict-stays (r ∷ rs) more h = by (r .holds) h (verdict-stays rs more)
+  where
+    by : (b : Bool) → (cond b (record { code = r .code; place = r .place }) (verdict rs) .code ≡ 0 → ⊥)
+        → ((verdict rs .code ≡ 0 → ⊥) → verdict (rs ++ more) ≡ verdict rs)
+        → cond b (record { code = r .code; place = r .place }) (verdict (rs ++ more)) ≡ cond b (record { code = r .code; place = r .place }) (verdict rs)
+    by true h f = refl
+    by false h f = f h
+
+pub verdict-goes-on : (rs more : List Row) → T (numbered rs) → verdict rs .code ≡ 0 → verdict (rs ++ more) ≡ verdict more
+unfolding verdict
+verdict-goes-on [] more n h = refl
+verdict-goes-on (r ∷ rs) more n h =
+    let c = accepted-clear (r ∷ rs) n h in
+    rw (c .0) (verdict-goes-on rs more (and-parts (ltb 0 (r .code)) (numbered rs) n .1) (rw (row-passed r rs (c .0)) at h))

@@ -1,3 +1,36 @@
 // The two calls that write marks: survey and re-shoot.
 mod fill;
 mod tally;
+mod verdict;
+
+use surface::Counts;
+use verdict::survey_verdict;
+ghost use mathlib.Core.Path.{_≡_};
+ghost use Rattle.surface.specs.Calls.{surveyAnswer, surveyMarks};
+
+// Fills the marks of a plot and counts its peaks, pits and saddles. Refused: the marks stay as they were.
+pub fn survey(rows: u32, columns: u32, heights: &[i32], marks: &mut [u8]) -> Counts
+    ensures { λ r. ⌜ r ≡ surveyAnswer rows columns (now (heights .entry)) (now (marks .entry)) ⌝ }
+    ensures { λ _. ⌜ now (marks .exit) ≡ surveyMarks rows columns (now (heights .entry)) (now (marks .entry)) ⌝ }
+{
+    let verdict = survey_verdict(rows, columns, heights, marks);
+    let code = verdict.code;
+    if code != 0 {
+        return Counts {
+            code,
+            place: verdict.place,
+            peaks: 0,
+            pits: 0,
+            saddles: 0,
+        };
+    }
+    fill::mark_plot(heights, rows as usize, columns as usize, marks);
+    let t = tally::count(marks);
+    Counts {
+        code: 0,
+        place: 0,
+        peaks: t.peaks,
+        pits: t.pits,
+        saddles: t.saddles,
+    }
+}

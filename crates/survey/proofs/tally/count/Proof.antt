@@ -63,11 +63,12 @@ loop-again c =
     let l = i .before in
     let ms = l .before .before .args .marks .now in
     let k = l .loop .i in
-    omega
-    (arith,
-    count-pass ms k (λ m. eqb m 1) 0 (i .loop-test .taken),
-    count-pass ms k (λ m. eqb m 2) 0 (i .loop-test .taken),
-    total-pass ms k multiplicity 0 (i .loop-test .taken))
+    omega (
+      arith,
+      count-pass ms k (λ m. eqb m 1) 0 (i .loop-test .taken),
+      count-pass ms k (λ m. eqb m 2) 0 (i .loop-test .taken),
+      total-pass ms k multiplicity 0 (i .loop-test .taken),
+    )
 
 returns : tie.Need-returns Inv-loop μ-loop
 unfolding peaks pits saddles
@@ -79,7 +80,7 @@ returns c =
     record {
       peaksAre = omega (arith, count-end ms k (λ m. eqb m 1) e);
       pitsAre = omega (arith, count-end ms k (λ m. eqb m 2) e);
-      saddlesAre = omega (arith, total-end ms k multiplicity e)
+      saddlesAre = omega (arith, total-end ms k multiplicity e);
     }
 
 pub count-spec : {M : Type 1} → statement M

@@ -1,0 +1,47 @@
+// What a survey and a re-shoot are turned away for.
+use plot::limits::is_height;
+use plot::limits::ranged;
+use plot::limits::sized;
+use surface::Answer;
+ghost use mathlib.Core.Path.{_≡_};
+ghost use Rattle.surface.specs.Refusals.{surveyVerdict, reshootVerdict};
+ghost use Rattle.surface.specs.Calls.{answer};
+
+// Rows 1, 2, 3 and 4 of the table.
+pub(crate) fn survey_verdict(rows: u32, columns: u32, heights: &[i32], marks: &[u8]) -> Answer
+    ensures { λ r. ⌜ r ≡ answer (surveyVerdict rows columns (now (heights .entry)) (now (marks .entry))) ⌝ }
+{
+    let code = sized(rows, columns, heights);
+    if code != 0 {
+        return Answer { code, place: 0 };
+    }
+    if marks.len() != heights.len() {
+        return Answer { code: 3, place: 0 };
+    }
+    ranged(heights)
+}
+
+// Rows 1 to 6.
+pub(crate) fn reshoot_verdict(
+    rows: u32,
+    columns: u32,
+    heights: &[i32],
+    marks: &[u8],
+    post: u32,
+    height: i32,
+) -> Answer
+    ensures { λ r. ⌜ r ≡ answer (reshootVerdict rows columns (now (heights .entry)) (now (marks .entry)) post height) ⌝ }
+{
+    let first = survey_verdict(rows, columns, heights, marks);
+    let code = first.code;
+    if code != 0 {
+        return first;
+    }
+    if heights.len() <= post as usize {
+        return Answer { code: 5, place: 0 };
+    }
+    if !is_height(height) {
+        return Answer { code: 6, place: 0 };
+    }
+    first
+}
