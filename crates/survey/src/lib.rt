@@ -1,12 +1,16 @@
 // The two calls that write marks: survey and re-shoot.
 mod fill;
+mod redraw;
 mod tally;
 mod verdict;
 
+use redraw::redraw;
+use surface::Answer;
 use surface::Counts;
+use verdict::reshoot_verdict;
 use verdict::survey_verdict;
 ghost use mathlib.Core.Path.{_≡_};
-ghost use Rattle.surface.specs.Calls.{surveyAnswer, surveyMarks};
+ghost use Rattle.surface.specs.Calls.{surveyAnswer, surveyMarks, reshootAnswer, reshootHeights, reshootMarks};
 
 // Fills the marks of a plot and counts its peaks, pits and saddles. Refused: the marks stay as they were.
 pub fn survey(rows: u32, columns: u32, heights: &[i32], marks: &mut [u8]) -> Counts
@@ -33,4 +37,28 @@ pub fn survey(rows: u32, columns: u32, heights: &[i32], marks: &mut [u8]) -> Cou
         pits: t.pits,
         saddles: t.saddles,
     }
+}
+
+// Puts a new height at one post, and works out afresh its mark and those of the posts that touch it. Refused: both lists stay as they were.
+pub fn reshoot(
+    rows: u32,
+    columns: u32,
+    heights: &mut [i32],
+    marks: &mut [u8],
+    post: u32,
+    height: i32,
+) -> Answer
+    ensures { λ r. ⌜ r ≡ reshootAnswer rows columns (now (heights .entry)) (now (marks .entry)) post height ⌝ }
+    ensures { λ _. ⌜ now (heights .exit) ≡ reshootHeights rows columns (now (heights .entry)) (now (marks .entry)) post height ⌝ }
+    ensures { λ _. ⌜ now (marks .exit) ≡ reshootMarks rows columns (now (heights .entry)) (now (marks .entry)) post height ⌝ }
+{
+    let verdict = reshoot_verdict(rows, columns, heights, marks, post, height);
+    let code = verdict.code;
+    if code != 0 {
+        return verdict;
+    }
+    let p = post as usize;
+    heights[p] = height;
+    redraw(heights, rows as usize, columns as usize, p, marks);
+    verdict
 }
