@@ -48,7 +48,7 @@ module _ {rows columns : ℕ} (s : Sides rows columns) (f : ℕ → ℕ) (c0 c1 
   painted-none r0 l = record { long = refl; at = λ j h. rw (within-none r0 (row columns j)) }
 
   pub painted-more : (r0 r : ℕ) (l₀ l : List ℕ) → c0 ≤ c1 → c1 ≤ columns → r0 ≤ r → r * columns + columns ≤ length l₀ → Painted columns f c0 c1 r0 r l₀ l
-    → Painted columns f c0 c1 r0 (r + 1) l₀ (stores f (r * columns + c0) (c1 - c0) l)
+      → Painted columns f c0 c1 r0 (r + 1) l₀ (stores f (r * columns + c0) (c1 - c0) l)
   painted-more r0 r l₀ l some fits h k p =
       record {
         long = length-stores f (r * columns + c0) (c1 - c0) l ∙ p .long;
@@ -56,16 +56,16 @@ module _ {rows columns : ℕ} (s : Sides rows columns) (f : ℕ → ℕ) (c0 c1 
       }
     where
       go : (j : ℕ) → j < length l₀ → Dec (row columns j ≡ r)
-        → getD (stores f (r * columns + c0) (c1 - c0) l) j 0 ≡ cond (within r0 (r + 1) (row columns j) && within c0 c1 (column columns j)) (f j) (getD l₀ j 0)
+          → getD (stores f (r * columns + c0) (c1 - c0) l) j 0 ≡ cond (within r0 (r + 1) (row columns j) && within c0 c1 (column columns j)) (f j) (getD l₀ j 0)
       go j m (yes e) =
           let k₀ = column columns j in
           let b : j ≡ r * columns + k₀ = sym (post-is columns j) ∙ ap (λ (x : ℕ). x * columns + k₀) e in
           rw (e, within-last r0 r h)
           (either (within c0 c1 k₀)
           (λ t.
-            rw t
-            (stores-in f (r * columns + c0) (c1 - c0) l j 0 (omega (arith, p .long)) (omega (arith, leb-true c0 k₀ (and-left (leb c0 k₀) (ltb k₀ c1) t)))
-            (omega (arith, ltb-true k₀ c1 (and-right (leb c0 k₀) (ltb k₀ c1) t)))))
+          rw t
+          (stores-in f (r * columns + c0) (c1 - c0) l j 0 (omega (arith, p .long)) (omega (arith, leb-true c0 k₀ (and-left (leb c0 k₀) (ltb k₀ c1) t)))
+          (omega (arith, ltb-true k₀ c1 (and-right (leb c0 k₀) (ltb k₀ c1) t)))))
           (λ t. rw t (stores-out f (r * columns + c0) (c1 - c0) l j 0 (outside t) ∙ p .at j m ∙ rw (e, within-end r0 r))))
         where
           outside : within c0 c1 (column columns j) ≡ false → r * columns + c0 ≤ j → j < r * columns + c0 + (c1 - c0) → ⊥
@@ -87,15 +87,15 @@ near-within a n b h =
 
 module _ {rows columns : ℕ} (s : Sides rows columns) (hs : List ℤ) (post : ℕ) where
   pub painted-redrawn : (l₀ l : List ℕ) → length l₀ ≡ rows * columns
-    → Painted columns (markAt rows columns hs) (column columns post - 1) (min (column columns post + 2) columns) (row columns post - 1) (min (row columns post + 2) rows) l₀ l
-    → l ≡ redrawn rows columns hs l₀ post
+      → Painted columns (markAt rows columns hs) (column columns post - 1) (min (column columns post + 2) columns) (row columns post - 1) (min (row columns post + 2) rows) l₀ l
+      → l ≡ redrawn rows columns hs l₀ post
   unfolding redrawn touches
   painted-redrawn l₀ l e p =
       ext-getD 0 l _ (p .long ∙ sym (length-listOf _ (length l₀)))
       (λ j h.
-        let k : j < length l₀ = omega (arith, p .long) in
-        let n : j < rows * columns = omega arith in
-        p .at j k
-        ∙ ap (λ (t : Bool). cond t (markAt rows columns hs j) (getD l₀ j 0))
-        (ap₂ _&&_ (near-within (row columns post) rows (row columns j) (row-lt s rows j .1 n)) (near-within (column columns post) columns (column columns j) (column-lt s j)))
-        ∙ sym (getD-listOf _ (length l₀) j 0 k))
+      let k : j < length l₀ = omega (arith, p .long) in
+      let n : j < rows * columns = omega arith in
+      p .at j k
+      ∙ ap (λ (t : Bool). cond t (markAt rows columns hs j) (getD l₀ j 0))
+      (ap₂ _&&_ (near-within (row columns post) rows (row columns j) (row-lt s rows j .1 n)) (near-within (column columns post) columns (column columns j) (column-lt s j)))
+      ∙ sym (getD-listOf _ (length l₀) j 0 k))

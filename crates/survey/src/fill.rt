@@ -39,7 +39,14 @@ fn mark_inner(
 }
 
 // The marks of n posts from post `from` on, each worked out by itself.
-pub(crate) fn mark_each(heights: &[i32], rows: usize, columns: usize, from: usize, n: usize, marks: &mut [u8])
+pub(crate) fn mark_each(
+    heights: &[i32],
+    rows: usize,
+    columns: usize,
+    from: usize,
+    n: usize,
+    marks: &mut [u8],
+)
     requires { ⌜ Fits rows columns (now heights) × (length (now marks) ≡ rows * columns) × (from + n ≤ rows * columns) ⌝ }
     ensures { λ _. ⌜ now (marks .exit) ≡ stores (markAt rows columns (now (heights .entry))) from n (now (marks .entry)) ⌝ }
 {

@@ -28,8 +28,8 @@ inRow s = row-lt (fits-sides (s .pre .0)) (s .args .rows) (s .args .post) .1 (s 
 
 -- a row of the block is a row of the plot, and the block's columns are the plot's
 room : (c : tie.In-loop Inv-loop μ-loop)
-  → let s = c .before .before .before .before .before .before .before in
-  (c .before .loop .r * s .args .columns + s .args .columns ≤ s .args .rows * s .args .columns) × (s .args .rows * s .args .columns ≤ 14400)
+    → let s = c .before .before .before .before .before .before .before in
+    (c .before .loop .r * s .args .columns + s .args .columns ≤ s .args .rows * s .args .columns) × (s .args .rows * s .args .columns ≤ 14400)
 room c =
     let s = c .before .before .before .before .before .before .before in
     let r = c .before .loop .r in
@@ -88,17 +88,18 @@ loop-again c =
     let b = l .before .before .before .before .before2 in
     let w = l .before .before .before .end-after .result - b .result in
     let s = l .before .before .before .before .before .before in
-    let e : b .result + w - b .result ≡ w = omega arith in
-    (omega arith,
+    let e : b .result + w - b .result ≡ w = omega arith in (
+      omega arith,
       omega arith,
       rw (m .mark-each .ensures)
-      (rw e at
-      (painted-more (fits-sides (s .pre .0)) (markAt (s .args .rows) (s .args .columns) (s .args .heights .now)) (b .result) (b .result + w) (l .before .before3 .result) (l .loop .r) (s .args .marks .now) (l .loop .marks)
-      (omega arith)
-      (omega (arith, inColumn s))
-      (l .loop .inv .0)
-      (omega (arith, room i, s .pre .1))
-      (l .loop .inv .2))))
+          (rw e at
+          (painted-more (fits-sides (s .pre .0)) (markAt (s .args .rows) (s .args .columns) (s .args .heights .now)) (b .result) (b .result + w) (l .before .before3 .result) (l .loop .r) (s .args .marks .now) (l .loop .marks)
+          (omega arith)
+          (omega (arith, inColumn s))
+          (l .loop .inv .0)
+          (omega (arith, room i, s .pre .1))
+          (l .loop .inv .2))),
+    )
 
 same-length : tie.Need-same-length Inv-loop μ-loop
 same-length c = c .before .loop .inv .2 .long
