@@ -75,6 +75,18 @@ impl Call {
         }
     }
 
+    /// Is a list lent that has no entries?
+    pub fn lends_empty(&self) -> bool {
+        self.heights.is_empty()
+            || match self.kind {
+                Kind::Survey | Kind::Reshoot => self.marks.is_empty(),
+                Kind::NextDown | Kind::NextUp => false,
+                Kind::Thalweg | Kind::Ridge => self.line.is_empty(),
+                Kind::DalesAndHills => self.dales.is_empty() || self.hills.is_empty(),
+                Kind::ReadSurvey | Kind::WriteSurvey => self.file.is_empty(),
+            }
+    }
+
     /// The lists that differ from another call's, each with its first difference.
     pub fn differences(&self, other: &Call) -> String {
         fn first<T: PartialEq + fmt::Debug>(name: &str, a: &[T], b: &[T]) -> String {

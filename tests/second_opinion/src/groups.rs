@@ -12,6 +12,7 @@ pub fn all(t: &mut Tester, chance: &mut Chance, long: bool) {
     exhaustive(t, chance, long);
     small_random(t, chance, 2500 * times);
     large_random(t, chance, 12 * times);
+    every_post(t, chance, long);
     refusals(t, chance, 12 * times);
     boundaries(t, chance);
     other_shape(t, chance);
@@ -207,6 +208,22 @@ fn large_random(t: &mut Tester, chance: &mut Chance, times: usize) {
                 let outcome = whole_plot(t, rows, columns, &heights, 30, chance);
                 t.case(outcome);
             }
+        }
+    }
+}
+
+/// Larger plots with every post's walk and every saddle's lines.
+fn every_post(t: &mut Tester, chance: &mut Chance, long: bool) {
+    t.group("every post and line of larger plots");
+    let mut sizes = vec![(30, 30), (2, 120), (120, 2)];
+    if long {
+        sizes.push((120, 120));
+    }
+    for (rows, columns) in sizes {
+        for kind in GROUNDS {
+            let heights = ground(kind, rows, columns, chance);
+            let outcome = whole_plot(t, rows, columns, &heights, rows * columns, chance);
+            t.case(outcome);
         }
     }
 }

@@ -32,12 +32,14 @@ pub struct Tester {
     started: Instant,
     at_start: u64,
     shown: u32,
+    /// End at the first failure.
+    stop: bool,
 }
 
 pub type Outcome = Result<(), String>;
 
 impl Tester {
-    pub fn new() -> Tester {
+    pub fn new(stop: bool) -> Tester {
         const ILL: c_int = 4;
         const ABORT: c_int = 6;
         const BUS: c_int = 7;
@@ -52,6 +54,7 @@ impl Tester {
             started: Instant::now(),
             at_start: 0,
             shown: 0,
+            stop,
         }
     }
 
@@ -77,7 +80,12 @@ impl Tester {
                 if self.shown <= 3 {
                     println!("FAILED in {}: {why}", self.group);
                 }
-                FAILED.fetch_add(1, Relaxed)
+                let before = FAILED.fetch_add(1, Relaxed);
+                if self.stop {
+                    self.finish();
+                    std::process::exit(1);
+                }
+                before
             }
         };
     }
@@ -95,6 +103,9 @@ impl Tester {
         let mut expected = call.clone();
         let answer = expected.by_opinion();
         for edge in [Edge::Start, Edge::End, Edge::Null] {
+            if edge == Edge::Null && !call.lends_empty() {
+                continue;
+            }
             let mut got = call.clone();
             CURRENT.store(call as *const Call as *mut Call, Relaxed);
             let got_answer = self.library.run(&mut got, edge);
