@@ -9,15 +9,16 @@ use crate::tester::{law, Outcome, Tester};
 pub fn all(t: &mut Tester, chance: &mut Chance, long: bool) {
     let times = if long { 20 } else { 1 };
     bench_plots(t);
-    exhaustive(t, chance, long);
-    small_random(t, chance, 2500 * times);
-    large_random(t, chance, 12 * times);
-    every_post(t, chance, long);
     refusals(t, chance, 12 * times);
     boundaries(t, chance);
     other_shape(t, chance);
-    series(t, chance, times);
     files(t, chance, times);
+    never_surveyed(t, chance, 2000 * times);
+    small_random(t, chance, 2500 * times);
+    series(t, chance, times);
+    exhaustive(t, chance, long);
+    every_post(t, chance, long);
+    large_random(t, chance, 12 * times);
 }
 
 const WAYS: [(Way, Kind, Kind); 2] =
@@ -597,9 +598,11 @@ fn series(t: &mut Tester, chance: &mut Chance, times: usize) {
         let outcome = one_series(t, rows, columns, 100, chance);
         t.case(outcome);
     }
+}
 
+fn never_surveyed(t: &mut Tester, chance: &mut Chance, times: usize) {
     t.group("re-shoots with marks that were never a survey's");
-    for i in 0..2000 * times {
+    for i in 0..times {
         let (rows, columns) = (2 + chance.below(7), 2 + chance.below(7));
         let heights = ground(GROUNDS[i % GROUNDS.len()], rows, columns, chance);
         let outcome = t.agree(&good(Kind::Reshoot, rows, columns, &heights, chance)).map(drop);
