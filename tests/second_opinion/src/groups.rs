@@ -14,7 +14,7 @@ pub fn all(t: &mut Tester, chance: &mut Chance, long: bool) {
     other_shape(t, chance);
     files(t, chance, times);
     never_surveyed(t, chance, 2000 * times);
-    small_random(t, chance, 2500 * times);
+    small_random(t, chance, 4000 * times);
     series(t, chance, times);
     exhaustive(t, chance, long);
     every_post(t, chance, long);
@@ -202,9 +202,9 @@ fn large_random(t: &mut Tester, chance: &mut Chance, times: usize) {
     t.group("large plots and strips");
     for _ in 0..times {
         for kind in GROUNDS {
-            let side = 2 + chance.below(119);
-            let other = 2 + chance.below(119);
-            for (rows, columns) in [(120, 120), (2, 120), (120, 2), (3, 120), (120, 3), (side, other)] {
+            let mut sizes = vec![(120, 120), (2, 120), (120, 2), (3, 120), (120, 3)];
+            sizes.extend([(); 4].map(|()| (2 + chance.below(119), 2 + chance.below(119))));
+            for (rows, columns) in sizes {
                 let heights = ground(kind, rows, columns, chance);
                 let outcome = whole_plot(t, rows, columns, &heights, 30, chance);
                 t.case(outcome);
@@ -226,6 +226,17 @@ fn every_post(t: &mut Tester, chance: &mut Chance, long: bool) {
             let outcome = whole_plot(t, rows, columns, &heights, rows * columns, chance);
             t.case(outcome);
         }
+    }
+    // The spirals are what they are meant to be: long walks.
+    for (kind, way) in [("spiral", Way::Down), ("upward spiral", Way::Up)] {
+        let heights = ground(kind, 120, 120, chance);
+        let plot = Plot { rows: 120, columns: 120, heights: &heights };
+        let (mut post, mut steps) = (121, 0);
+        while post != VIRTUAL_PIT && plot.next(post, way) != post {
+            post = plot.next(post, way);
+            steps += 1;
+        }
+        t.case(if steps > 6000 { Ok(()) } else { Err(format!("{kind}: {steps} steps")) });
     }
 }
 

@@ -16,8 +16,6 @@ struct Entries([u32; 3]);
 #[repr(C)]
 struct Size([u32; 4]);
 
-type Heights = (*const i32, usize);
-
 extern "C" {
     fn sn_survey(rows: u32, columns: u32, h: *const i32, hn: usize, m: *mut u8, mn: usize)
         -> Counts;
@@ -39,9 +37,9 @@ extern "C" {
         rows: u32, columns: u32, h: *const i32, hn: usize,
         dales: *mut u16, dn: usize, hills: *mut u16, pn: usize,
     ) -> Answer;
-    fn sn_read_survey(file: *const u8, fn_: usize, h: *mut i32, hn: usize) -> Size;
+    fn sn_read_survey(file: *const u8, bytes: usize, h: *mut i32, hn: usize) -> Size;
     fn sn_write_survey(
-        rows: u32, columns: u32, h: *const i32, hn: usize, file: *mut u8, fn_: usize,
+        rows: u32, columns: u32, h: *const i32, hn: usize, file: *mut u8, bytes: usize,
     ) -> Answer;
 
     fn mmap(at: *mut c_void, length: usize, access: c_int, flags: c_int, fd: c_int, offset: i64)
@@ -122,7 +120,7 @@ impl Library {
         let hills = m4.lend(&call.hills, edge);
         let file = m5.lend(&call.file, edge);
         let (r, c, p, run) = (call.rows, call.columns, call.post, call.run);
-        let (h, hn): Heights = (heights, call.heights.len());
+        let (h, hn) = (heights.cast_const(), call.heights.len());
         let (mn, ln) = (call.marks.len(), call.line.len());
         let (dn, pn, fl) = (call.dales.len(), call.hills.len(), call.file.len());
         let answer = unsafe {
