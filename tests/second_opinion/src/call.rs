@@ -50,23 +50,31 @@ pub struct Call {
 impl Call {
     /// The answer by document 01; the lists become what the call must leave.
     pub fn by_opinion(&mut self) -> Vec<u32> {
-        let Call { kind, rows, columns, heights, marks, post, height, run, line, dales, hills, file } =
-            self;
+        let Call {
+            kind,
+            rows,
+            columns,
+            heights,
+            marks,
+            post,
+            height,
+            run,
+            line,
+            dales,
+            hills,
+            file,
+        } = self;
         let (rows, columns, post, height, run) = (*rows, *columns, *post, *height, *run);
         let next = |way| opinion::next(way, rows, columns, heights, post).to_vec();
         match kind {
             Kind::Survey => opinion::survey(rows, columns, heights, marks).to_vec(),
-            Kind::Reshoot => {
-                opinion::reshoot(rows, columns, heights, marks, post, height).to_vec()
-            }
+            Kind::Reshoot => opinion::reshoot(rows, columns, heights, marks, post, height).to_vec(),
             Kind::NextDown => next(Way::Down),
             Kind::NextUp => next(Way::Up),
             Kind::Thalweg => {
                 opinion::line(Way::Down, rows, columns, heights, post, run, line).to_vec()
             }
-            Kind::Ridge => {
-                opinion::line(Way::Up, rows, columns, heights, post, run, line).to_vec()
-            }
+            Kind::Ridge => opinion::line(Way::Up, rows, columns, heights, post, run, line).to_vec(),
             Kind::DalesAndHills => {
                 opinion::dales_and_hills(rows, columns, heights, dales, hills).to_vec()
             }
@@ -111,9 +119,18 @@ impl fmt::Display for Call {
             f,
             "{:?}, rows {}, columns {}, post {}, height {}, run {}; lengths: heights {}, \
              marks {}, line {}, dales {}, hills {}, file {}",
-            self.kind, self.rows, self.columns, self.post, self.height, self.run,
-            self.heights.len(), self.marks.len(), self.line.len(), self.dales.len(),
-            self.hills.len(), self.file.len()
+            self.kind,
+            self.rows,
+            self.columns,
+            self.post,
+            self.height,
+            self.run,
+            self.heights.len(),
+            self.marks.len(),
+            self.line.len(),
+            self.dales.len(),
+            self.hills.len(),
+            self.file.len()
         )?;
         let width = (self.columns as usize).clamp(1, 120);
         for row in self.heights.chunks(width).take(20) {

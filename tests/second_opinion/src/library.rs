@@ -17,33 +17,74 @@ struct Entries([u32; 3]);
 struct Size([u32; 4]);
 
 extern "C" {
-    fn sn_survey(rows: u32, columns: u32, h: *const i32, hn: usize, m: *mut u8, mn: usize)
-        -> Counts;
+    fn sn_survey(
+        rows: u32,
+        columns: u32,
+        h: *const i32,
+        hn: usize,
+        m: *mut u8,
+        mn: usize,
+    ) -> Counts;
     fn sn_reshoot(
-        rows: u32, columns: u32, h: *mut i32, hn: usize, m: *mut u8, mn: usize,
-        post: u32, height: i32,
+        rows: u32,
+        columns: u32,
+        h: *mut i32,
+        hn: usize,
+        m: *mut u8,
+        mn: usize,
+        post: u32,
+        height: i32,
     ) -> Answer;
     fn sn_next_down(rows: u32, columns: u32, h: *const i32, hn: usize, post: u32) -> Next;
     fn sn_next_up(rows: u32, columns: u32, h: *const i32, hn: usize, post: u32) -> Next;
     fn sn_thalweg(
-        rows: u32, columns: u32, h: *const i32, hn: usize, post: u32, run: u32,
-        line: *mut u16, ln: usize,
+        rows: u32,
+        columns: u32,
+        h: *const i32,
+        hn: usize,
+        post: u32,
+        run: u32,
+        line: *mut u16,
+        ln: usize,
     ) -> Entries;
     fn sn_ridge(
-        rows: u32, columns: u32, h: *const i32, hn: usize, post: u32, run: u32,
-        line: *mut u16, ln: usize,
+        rows: u32,
+        columns: u32,
+        h: *const i32,
+        hn: usize,
+        post: u32,
+        run: u32,
+        line: *mut u16,
+        ln: usize,
     ) -> Entries;
     fn sn_dales_and_hills(
-        rows: u32, columns: u32, h: *const i32, hn: usize,
-        dales: *mut u16, dn: usize, hills: *mut u16, pn: usize,
+        rows: u32,
+        columns: u32,
+        h: *const i32,
+        hn: usize,
+        dales: *mut u16,
+        dn: usize,
+        hills: *mut u16,
+        pn: usize,
     ) -> Answer;
     fn sn_read_survey(file: *const u8, bytes: usize, h: *mut i32, hn: usize) -> Size;
     fn sn_write_survey(
-        rows: u32, columns: u32, h: *const i32, hn: usize, file: *mut u8, bytes: usize,
+        rows: u32,
+        columns: u32,
+        h: *const i32,
+        hn: usize,
+        file: *mut u8,
+        bytes: usize,
     ) -> Answer;
 
-    fn mmap(at: *mut c_void, length: usize, access: c_int, flags: c_int, fd: c_int, offset: i64)
-        -> *mut c_void;
+    fn mmap(
+        at: *mut c_void,
+        length: usize,
+        access: c_int,
+        flags: c_int,
+        fd: c_int,
+        offset: i64,
+    ) -> *mut c_void;
     fn mprotect(at: *mut c_void, length: usize, access: c_int) -> c_int;
 }
 

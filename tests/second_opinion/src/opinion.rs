@@ -14,15 +14,27 @@ fn outside(value: i32, bound: i64) -> bool {
 
 fn row_1(rows: u32, columns: u32) -> Result<(), Refusal> {
     let good = 2..=120;
-    if good.contains(&rows) && good.contains(&columns) { Ok(()) } else { Err((1, 0)) }
+    if good.contains(&rows) && good.contains(&columns) {
+        Ok(())
+    } else {
+        Err((1, 0))
+    }
 }
 
 fn row_2(plot: &Plot) -> Result<(), Refusal> {
-    if plot.heights.len() == plot.posts() { Ok(()) } else { Err((2, 0)) }
+    if plot.heights.len() == plot.posts() {
+        Ok(())
+    } else {
+        Err((2, 0))
+    }
 }
 
 fn row_3(length: usize, size: usize) -> Result<(), Refusal> {
-    if length == size { Ok(()) } else { Err((3, 0)) }
+    if length == size {
+        Ok(())
+    } else {
+        Err((3, 0))
+    }
 }
 
 fn row_4(heights: &[i32], bound: i64) -> Result<(), Refusal> {
@@ -33,7 +45,11 @@ fn row_4(heights: &[i32], bound: i64) -> Result<(), Refusal> {
 }
 
 fn row_5(post: u32, plot: &Plot) -> Result<(), Refusal> {
-    if (post as usize) < plot.posts() { Ok(()) } else { Err((5, 0)) }
+    if (post as usize) < plot.posts() {
+        Ok(())
+    } else {
+        Err((5, 0))
+    }
 }
 
 fn plot(rows: u32, columns: u32, heights: &[i32]) -> Result<Plot<'_>, Refusal> {

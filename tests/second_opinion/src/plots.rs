@@ -40,7 +40,14 @@ impl Chance {
 }
 
 pub const GROUNDS: [&str; 9] = [
-    "few heights", "random", "flat", "near level", "checkerboard", "smooth", "extremes", "spiral",
+    "few heights",
+    "random",
+    "flat",
+    "near level",
+    "checkerboard",
+    "smooth",
+    "extremes",
+    "spiral",
     "upward spiral",
 ];
 
@@ -76,9 +83,7 @@ pub fn ground(kind: &str, rows: usize, columns: usize, chance: &mut Chance) -> V
             };
             (0..posts).map(height).collect()
         }
-        "extremes" => {
-            (0..posts).map(|_| chance.of(&[-1_000_000, 1_000_000, 0, 999_999])).collect()
-        }
+        "extremes" => (0..posts).map(|_| chance.of(&[-1_000_000, 1_000_000, 0, 999_999])).collect(),
         "spiral" => spiral(rows, columns),
         "upward spiral" => spiral(rows, columns).iter().map(|h| -h).collect(),
         _ => panic!("no such ground: {kind}"),

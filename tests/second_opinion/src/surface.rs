@@ -33,10 +33,8 @@ impl Plot<'_> {
     fn at(&self, post: usize, rows: i32, columns: i32) -> Option<usize> {
         let row = (post / self.columns) as i32 + rows;
         let column = (post % self.columns) as i32 + columns;
-        let inside = 0 <= row
-            && row < self.rows as i32
-            && 0 <= column
-            && column < self.columns as i32;
+        let inside =
+            0 <= row && row < self.rows as i32 && 0 <= column && column < self.columns as i32;
         inside.then(|| row as usize * self.columns + column as usize)
     }
 

@@ -123,5 +123,9 @@ impl Tester {
 
 /// Fails with the call's arguments where a law does not hold.
 pub fn law(holds: bool, name: &str, call: &Call) -> Outcome {
-    if holds { Ok(()) } else { Err(format!("{name}\n  {call}")) }
+    if holds {
+        Ok(())
+    } else {
+        Err(format!("{name}\n  {call}"))
+    }
 }
