@@ -217,7 +217,7 @@ static void prepare(uint32_t a_side, int kind, int name)
 
 /* ---- times ---- */
 
-enum { ROUNDS = 15 };
+enum { ROUNDS = 25 };
 
 static double now(void)
 {
@@ -232,37 +232,54 @@ static int compare(const void *a, const void *b)
     return (x > y) - (x < y);
 }
 
-/* Medians of the three builds, which take turns. */
-static void measure(int name, double median[BUILDS])
+static double median(double *values)
 {
-    double times[BUILDS][ROUNDS];
-    uint32_t repeats = 1 + 400000 / (posts * 5);
+    qsort(values, ROUNDS, sizeof *values, compare);
+    return values[ROUNDS / 2];
+}
 
-    for (int round = 0; round < ROUNDS; round++)
+typedef struct {
+    double time[BUILDS];  /* nanoseconds a post */
+    double ratio[BUILDS]; /* the library's time to this build's */
+} figures;
+
+/* The builds take turns. A ratio is taken within a round, so that a machine that
+   grows slower for a while does not bend it. */
+static figures measure(int name)
+{
+    double times[BUILDS][ROUNDS], ratios[BUILDS][ROUNDS];
+    uint32_t repeats = 1 + 400000 / (posts * 5);
+    figures f;
+
+    for (int round = 0; round < ROUNDS; round++) {
         for (int build = 0; build < BUILDS; build++) {
             double start = now();
             for (uint32_t turn = 0; turn < repeats; turn++)
                 (void)once(build, name, turn);
             times[build][round] = (now() - start) / repeats / posts;
         }
-    for (int build = 0; build < BUILDS; build++) {
-        qsort(times[build], ROUNDS, sizeof(double), compare);
-        median[build] = times[build][ROUNDS / 2];
+        for (int build = 0; build < BUILDS; build++)
+            ratios[build][round] = times[LIBRARY][round] / times[build][round];
     }
+    for (int build = 0; build < BUILDS; build++) {
+        f.time[build] = median(times[build]);
+        f.ratio[build] = median(ratios[build]);
+    }
+    return f;
 }
 
 static int row(const char *left, const char *right, uint32_t a_side, int kind, int name)
 {
-    double t[BUILDS];
+    figures f;
     int agree;
 
     prepare(a_side, kind, name);
     agree = outcome(LIBRARY, name) == outcome(SCALAR, name) &&
             outcome(LIBRARY, name) == outcome(VECTOR, name);
     prepare(a_side, kind, name);
-    measure(name, t);
-    printf("%-16s %-13s %9.2f %9.2f %9.2f %11.2f %11.2f%s\n", left, right, t[LIBRARY], t[SCALAR],
-           t[VECTOR], t[LIBRARY] / t[SCALAR], t[LIBRARY] / t[VECTOR],
+    f = measure(name);
+    printf("%-16s %-13s %9.2f %9.2f %9.2f %11.2f %11.2f%s\n", left, right, f.time[LIBRARY],
+           f.time[SCALAR], f.time[VECTOR], f.ratio[SCALAR], f.ratio[VECTOR],
            agree ? "" : "  THEY DISAGREE");
     return agree;
 }
