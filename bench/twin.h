@@ -1,0 +1,31 @@
+/*
+ * The C twin of the library: the same calls, written by hand for speed, as the
+ * opponent of the benchmark. The names carry another prefix, so that several
+ * builds of the twin can stand in one program.
+ */
+#ifndef TWIN_H
+#define TWIN_H
+
+#include "../include/surface_network.h"
+
+#define TWIN_DECLARE(prefix)                                                   \
+    sn_counts prefix##_survey(uint32_t, uint32_t, const int32_t *, size_t,     \
+                              uint8_t *, size_t);                              \
+    sn_answer prefix##_reshoot(uint32_t, uint32_t, int32_t *, size_t,          \
+                               uint8_t *, size_t, uint32_t, int32_t);          \
+    sn_next prefix##_next_down(uint32_t, uint32_t, const int32_t *, size_t,    \
+                               uint32_t);                                      \
+    sn_next prefix##_next_up(uint32_t, uint32_t, const int32_t *, size_t,      \
+                             uint32_t);                                        \
+    sn_entries prefix##_thalweg(uint32_t, uint32_t, const int32_t *, size_t,   \
+                                uint32_t, uint32_t, uint16_t *, size_t);       \
+    sn_entries prefix##_ridge(uint32_t, uint32_t, const int32_t *, size_t,     \
+                              uint32_t, uint32_t, uint16_t *, size_t);         \
+    sn_answer prefix##_dales_and_hills(uint32_t, uint32_t, const int32_t *,    \
+                                       size_t, uint16_t *, size_t, uint16_t *, \
+                                       size_t);                                \
+    sn_size prefix##_read_survey(const uint8_t *, size_t, int32_t *, size_t);  \
+    sn_answer prefix##_write_survey(uint32_t, uint32_t, const int32_t *,       \
+                                    size_t, uint8_t *, size_t)
+
+#endif

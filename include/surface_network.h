@@ -1,0 +1,293 @@
+/*
+ * The surface network of a levelled plot: marks, lines, dales and hills.
+ *
+ * A plot has rows by columns posts, SN_MIN_SIDE to SN_MAX_SIDE of each. Post
+ * number = row * columns + column, both counted from 0 at the top left. A
+ * height is a whole number of millimetres, SN_MIN_HEIGHT to SN_MAX_HEIGHT.
+ *
+ * Height order: a post is below another when its height is less, or the
+ * heights are equal and its number is less. The virtual pit lies below every
+ * post, outside the border; it is written SN_VIRTUAL_PIT in lists.
+ *
+ * Edges: the sides of each cell of four posts, the one diagonal of the cell
+ * through its lowest post, and an edge from each border post to the virtual
+ * pit. The ring of a post is its neighbours clockwise from north:
+ *
+ *     NW  N  NE        7 0 1
+ *      W  .  E         6 . 2      the virtual pit stands at N in the top row,
+ *     SW  S  SE        5 4 3      else at E in the last column, else at S in
+ *                                 the bottom row, else at W in the first column
+ *
+ * A lower run is a longest stretch of the ring, taken as a circle, that lies
+ * below the post; an upper run lies above it. Runs of each sort are numbered
+ * from 0 by the ring place of their first member, the one whose predecessor is
+ * of the other sort. A run that wraps from NW to N therefore comes last.
+ *
+ *
+ * Rules for every call
+ *
+ * - Nothing is kept between calls. Every call checks all that it is lent.
+ * - A list is a pointer and then its length, counted in entries, not in bytes.
+ *   The caller owns it. It is read and written only inside its length, and only
+ *   during the call. A pointer may be null only where its length is 0; one that
+ *   is not null is aligned for its type.
+ * - Lists lent to one call share no memory. This is for the caller to keep.
+ * - An accepted call answers code SN_OK, place 0, then its values. A refused one
+ *   answers a code from 1 to 12 and its place; every other value is 0, and no
+ *   list is changed. Where several refusals hold, the one listed first under the
+ *   call is answered. The place is 0 except with SN_HEIGHT_OUT_OF_RANGE.
+ */
+#ifndef SURFACE_NETWORK_H
+#define SURFACE_NETWORK_H
+
+#include <stddef.h>
+#include <stdint.h>
+
+#ifdef __cplusplus
+extern "C" {
+#endif
+
+#if defined(__GNUC__) || defined(__clang__)
+#define SN_USE_ANSWER __attribute__((warn_unused_result))
+#else
+#define SN_USE_ANSWER
+#endif
+
+/* Sizes of a plot. */
+#define SN_MIN_SIDE 2
+#define SN_MAX_SIDE 120
+#define SN_MAX_POSTS 14400 /* SN_MAX_SIDE * SN_MAX_SIDE */
+
+/* Range of a height, in millimetres, and of a filed height, in tenths. */
+#define SN_MIN_HEIGHT (-1000000)
+#define SN_MAX_HEIGHT 1000000
+#define SN_MIN_TENTHS (-10000000)
+#define SN_MAX_TENTHS 10000000
+
+/* The virtual pit in lists and answers. */
+#define SN_VIRTUAL_PIT 65535
+
+/* No line has more entries: every post once, and the virtual pit. */
+#define SN_MAX_LINE 14401
+
+/* Survey files, in bytes. */
+#define SN_FILE_VERSION 1
+#define SN_FILE_HEADER 7
+#define SN_FILE_SIZE(rows, columns) \
+    ((size_t)SN_FILE_HEADER + 4 * (size_t)(rows) * (size_t)(columns))
+#define SN_MAX_FILE 57607 /* SN_FILE_SIZE(SN_MAX_SIDE, SN_MAX_SIDE) */
+
+/* Marks, one byte a post. */
+enum {
+    SN_ORDINARY = 0,
+    SN_PEAK = 1,     /* no neighbour is above */
+    SN_PIT = 2,      /* no neighbour is below */
+    SN_SADDLE_1 = 3, /* two lower runs: multiplicity 1 */
+    SN_SADDLE_2 = 4, /* three lower runs: multiplicity 2 */
+    SN_SADDLE_3 = 5  /* four lower runs: multiplicity 3 */
+};
+
+/* Codes. */
+enum {
+    SN_OK = 0,
+    SN_BAD_SIDES = 1,           /* rows or columns outside 2 to 120 */
+    SN_BAD_HEIGHTS_LENGTH = 2,  /* heights to be read are not rows * columns */
+    SN_BAD_LIST_LENGTH = 3,     /* another list is not exactly its size */
+    SN_HEIGHT_OUT_OF_RANGE = 4, /* held or filed; place: the first such post */
+    SN_NO_SUCH_POST = 5,        /* post not below rows * columns */
+    SN_BAD_NEW_HEIGHT = 6,      /* new height outside its range */
+    SN_NOT_A_SADDLE = 7,        /* line of a post that is no saddle */
+    SN_NO_SUCH_RUN = 8,         /* run not below the post's runs of that sort */
+    SN_LINE_TOO_LONG = 9,       /* the line has more entries than its list */
+    SN_FILE_TOO_SHORT = 10,     /* file under 7 bytes */
+    SN_BAD_VERSION = 11,        /* version not 1 */
+    SN_BAD_COUNT = 12           /* stated count is not that of the bytes after
+                                   it, or not 2 + 4 * rows * columns */
+};
+
+/* Answers. All begin with code and place. */
+typedef struct sn_answer {
+    uint32_t code, place;
+} sn_answer;
+
+typedef struct sn_counts {
+    uint32_t code, place;
+    uint32_t peaks;
+    uint32_t pits;    /* the virtual pit included */
+    uint32_t saddles; /* summed by multiplicity; peaks + pits - saddles = 2 */
+} sn_counts;
+
+typedef struct sn_next {
+    uint32_t code, place;
+    uint32_t post; /* a post, or SN_VIRTUAL_PIT */
+} sn_next;
+
+typedef struct sn_entries {
+    uint32_t code, place;
+    uint32_t count; /* entries written at the front of the list */
+} sn_entries;
+
+typedef struct sn_size {
+    uint32_t code, place;
+    uint32_t rows, columns;
+} sn_size;
+
+/*
+ * Survey: marks every post and counts peaks, pits and saddles.
+ *
+ * Reads   heights, rows * columns of them.
+ * Writes  marks, as many: every entry.
+ * Answers SN_OK, or in this order
+ *   SN_BAD_SIDES
+ *   SN_BAD_HEIGHTS_LENGTH
+ *   SN_BAD_LIST_LENGTH      marks are not rows * columns
+ *   SN_HEIGHT_OUT_OF_RANGE  place: the first such post
+ */
+SN_USE_ANSWER
+sn_counts sn_survey(uint32_t rows, uint32_t columns,
+                    const int32_t *heights, size_t heights_length,
+                    uint8_t *marks, size_t marks_length);
+
+/*
+ * Re-shoot: puts a new height at one post.
+ *
+ * Reads   heights, rows * columns of them.
+ * Writes  heights[post], and afresh the marks of that post and of those that
+ *         touch it by side or corner. No other height or mark is touched. If the
+ *         marks were those of a survey of the old heights, they are now those of
+ *         a survey of the new ones.
+ * Answers SN_OK, or in this order
+ *   SN_BAD_SIDES
+ *   SN_BAD_HEIGHTS_LENGTH
+ *   SN_BAD_LIST_LENGTH      marks are not rows * columns
+ *   SN_HEIGHT_OUT_OF_RANGE  place: the first such post; the old height of the
+ *                           post that is re-shot counts
+ *   SN_NO_SUCH_POST
+ *   SN_BAD_NEW_HEIGHT
+ */
+SN_USE_ANSWER
+sn_answer sn_reshoot(uint32_t rows, uint32_t columns,
+                     int32_t *heights, size_t heights_length,
+                     uint8_t *marks, size_t marks_length,
+                     uint32_t post, int32_t height);
+
+/*
+ * Next down: the lowest neighbour of a post, or the post itself if it is a pit.
+ * From a border post that is SN_VIRTUAL_PIT.
+ * Next up: the highest neighbour, or the post itself if it is a peak.
+ *
+ * Reads   heights, rows * columns of them.
+ * Writes  nothing.
+ * Answers SN_OK, or in this order
+ *   SN_BAD_SIDES
+ *   SN_BAD_HEIGHTS_LENGTH
+ *   SN_HEIGHT_OUT_OF_RANGE  place: the first such post
+ *   SN_NO_SUCH_POST
+ */
+SN_USE_ANSWER
+sn_next sn_next_down(uint32_t rows, uint32_t columns,
+                     const int32_t *heights, size_t heights_length,
+                     uint32_t post);
+
+SN_USE_ANSWER
+sn_next sn_next_up(uint32_t rows, uint32_t columns,
+                   const int32_t *heights, size_t heights_length,
+                   uint32_t post);
+
+/*
+ * Thalweg (water line) of a saddle and one of its lower runs: the saddle, the
+ * lowest member of the run, then next down until a pit, which is the last entry.
+ * Ridge (crest line) of a saddle and one of its upper runs: the saddle, the
+ * highest member of the run, then next up until a peak.
+ *
+ * Reads   heights, rows * columns of them.
+ * Writes  line[0] to line[count - 1]. Entries from count on keep their content.
+ *         The list may have any length; SN_MAX_LINE always suffices.
+ * Answers SN_OK, or in this order
+ *   SN_BAD_SIDES
+ *   SN_BAD_HEIGHTS_LENGTH
+ *   SN_HEIGHT_OUT_OF_RANGE  place: the first such post
+ *   SN_NO_SUCH_POST
+ *   SN_NOT_A_SADDLE
+ *   SN_NO_SUCH_RUN
+ *   SN_LINE_TOO_LONG        SN_VIRTUAL_PIT counts as an entry
+ */
+SN_USE_ANSWER
+sn_entries sn_thalweg(uint32_t rows, uint32_t columns,
+                      const int32_t *heights, size_t heights_length,
+                      uint32_t post, uint32_t run,
+                      uint16_t *line, size_t line_length);
+
+SN_USE_ANSWER
+sn_entries sn_ridge(uint32_t rows, uint32_t columns,
+                    const int32_t *heights, size_t heights_length,
+                    uint32_t post, uint32_t run,
+                    uint16_t *line, size_t line_length);
+
+/*
+ * Dales and hills: names for each post the pit at which next down ends, or
+ * SN_VIRTUAL_PIT, and the peak at which next up ends.
+ *
+ * Reads   heights, rows * columns of them.
+ * Writes  dales and hills, as many each: every entry.
+ * Answers SN_OK, or in this order
+ *   SN_BAD_SIDES
+ *   SN_BAD_HEIGHTS_LENGTH
+ *   SN_BAD_LIST_LENGTH      dales or hills are not rows * columns
+ *   SN_HEIGHT_OUT_OF_RANGE  place: the first such post
+ */
+SN_USE_ANSWER
+sn_answer sn_dales_and_hills(uint32_t rows, uint32_t columns,
+                             const int32_t *heights, size_t heights_length,
+                             uint16_t *dales, size_t dales_length,
+                             uint16_t *hills, size_t hills_length);
+
+/*
+ * A survey file:
+ *
+ *     byte 0       version, SN_FILE_VERSION
+ *     bytes 1..4   count of the bytes after these, unsigned, big-endian:
+ *                  2 + 4 * rows * columns
+ *     byte 5       rows
+ *     byte 6       columns
+ *     then         for each post a signed big-endian 32-bit number of tenths of
+ *                  a millimetre, SN_MIN_TENTHS to SN_MAX_TENTHS
+ *
+ * Read: rounds to whole millimetres, a half going away from zero.
+ *
+ * Reads   file.
+ * Writes  heights: every entry. Bytes 5 and 6 of the file tell beforehand how
+ *         many there must be.
+ * Answers SN_OK with rows and columns, or in this order
+ *   SN_FILE_TOO_SHORT
+ *   SN_BAD_VERSION
+ *   SN_BAD_SIDES
+ *   SN_BAD_COUNT
+ *   SN_BAD_LIST_LENGTH      heights are not rows * columns
+ *   SN_HEIGHT_OUT_OF_RANGE  place: the first such post
+ */
+SN_USE_ANSWER
+sn_size sn_read_survey(const uint8_t *file, size_t file_length,
+                       int32_t *heights, size_t heights_length);
+
+/*
+ * Write: a file that reads back to the same heights.
+ *
+ * Reads   heights, rows * columns of them.
+ * Writes  file, exactly SN_FILE_SIZE(rows, columns) bytes: every one.
+ * Answers SN_OK, or in this order
+ *   SN_BAD_SIDES
+ *   SN_BAD_HEIGHTS_LENGTH
+ *   SN_BAD_LIST_LENGTH      file is not SN_FILE_SIZE(rows, columns)
+ *   SN_HEIGHT_OUT_OF_RANGE  place: the first such post
+ */
+SN_USE_ANSWER
+sn_answer sn_write_survey(uint32_t rows, uint32_t columns,
+                          const int32_t *heights, size_t heights_length,
+                          uint8_t *file, size_t file_length);
+
+#ifdef __cplusplus
+}
+#endif
+
+#endif

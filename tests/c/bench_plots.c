@@ -1,0 +1,278 @@
+/*
+ * Document 01's bench plots through the C calls. Compiles as C99 and as C++.
+ * Every list is its own piece of the heap, exactly as long as lent, so that a
+ * memory checker sees a byte too many.
+ */
+#include "surface_network.h"
+
+#include <stdio.h>
+#include <stdlib.h>
+#include <string.h>
+
+static int passed, failed;
+
+static void check(int holds, const char *what)
+{
+    if (holds) {
+        passed++;
+    } else {
+        failed++;
+        printf("FAILED: %s\n", what);
+    }
+}
+
+/* A list on the heap with the content given, or zeros. */
+static void *lent(size_t size, const void *content)
+{
+    void *list = calloc(size ? size : 1, 1);
+    if (!list)
+        abort();
+    if (content)
+        memcpy(list, content, size);
+    return list;
+}
+
+typedef struct {
+    const char *name;
+    uint32_t rows, columns;
+    int32_t heights[9];
+    uint8_t marks[9];
+    uint32_t peaks, pits, saddles;
+} plot;
+
+static const plot flat = {"flat", 2, 2, {0, 0, 0, 0}, {0, 0, 0, 1}, 1, 1, 0};
+static const plot crossed = {"crossed", 2, 2, {5, 0, 0, 5}, {1, 0, 3, 1}, 2, 1, 1};
+static const plot star = {"star", 3, 3, {0, 2, 0, 2, 1, 2, 0, 2, 0},
+                          {0, 1, 0, 1, 5, 1, 0, 1, 0}, 4, 1, 3};
+static const plot hollow = {"hollow", 3, 3, {1, 1, 1, 1, 0, 1, 1, 1, 1},
+                            {3, 0, 0, 0, 2, 0, 0, 0, 1}, 1, 2, 1};
+
+static size_t posts_of(const plot *p)
+{
+    return (size_t)p->rows * p->columns;
+}
+
+static void survey(const plot *p)
+{
+    size_t n = posts_of(p);
+    int32_t *heights = (int32_t *)lent(n * sizeof *heights, p->heights);
+    uint8_t *marks = (uint8_t *)lent(n, NULL);
+    sn_counts got;
+
+    memset(marks, 99, n);
+    got = sn_survey(p->rows, p->columns, heights, n, marks, n);
+    check(got.code == SN_OK && got.place == 0, p->name);
+    check(got.peaks == p->peaks && got.pits == p->pits && got.saddles == p->saddles, p->name);
+    check(memcmp(marks, p->marks, n) == 0, p->name);
+    check(memcmp(heights, p->heights, n * sizeof *heights) == 0, p->name);
+
+    got = sn_survey(p->rows, p->columns, heights, n, marks, n - 1);
+    check(got.code == SN_BAD_LIST_LENGTH && got.peaks == 0, "marks one short");
+    got = sn_survey(p->rows, p->columns, heights, n - 1, marks, n);
+    check(got.code == SN_BAD_HEIGHTS_LENGTH && got.pits == 0, "heights one short");
+    check(memcmp(marks, p->marks, n) == 0, "a refused survey leaves the marks");
+    free(heights);
+    free(marks);
+}
+
+/* From a level plot to this one, post by post, with refused calls between. */
+static void reshoots(const plot *p)
+{
+    size_t n = posts_of(p);
+    int32_t *heights = (int32_t *)lent(n * sizeof *heights, NULL);
+    uint8_t *marks = (uint8_t *)lent(n, NULL);
+    uint8_t *fresh = (uint8_t *)lent(n, NULL);
+    sn_counts counts = sn_survey(p->rows, p->columns, heights, n, marks, n);
+    uint32_t post;
+
+    check(counts.code == SN_OK, "survey of level ground");
+    for (post = 0; post < n; post++) {
+        sn_answer got = sn_reshoot(p->rows, p->columns, heights, n, marks, n,
+                                   post, p->heights[post]);
+        check(got.code == SN_OK && got.place == 0, "a re-shoot is accepted");
+        got = sn_reshoot(p->rows, p->columns, heights, n, marks, n, (uint32_t)n, 0);
+        check(got.code == SN_NO_SUCH_POST, "no such post");
+        got = sn_reshoot(p->rows, p->columns, heights, n, marks, n, post, SN_MAX_HEIGHT + 1);
+        check(got.code == SN_BAD_NEW_HEIGHT, "new height out of range");
+        counts = sn_survey(p->rows, p->columns, heights, n, fresh, n);
+        check(counts.peaks + counts.pits == counts.saddles + 2, "the balance");
+        check(memcmp(marks, fresh, n) == 0, "marks as after a fresh survey");
+    }
+    check(memcmp(heights, p->heights, n * sizeof *heights) == 0, p->name);
+    check(memcmp(marks, p->marks, n) == 0, p->name);
+    free(heights);
+    free(marks);
+    free(fresh);
+}
+
+typedef sn_entries line_call(uint32_t, uint32_t, const int32_t *, size_t,
+                             uint32_t, uint32_t, uint16_t *, size_t);
+
+/* One line into a list of some length; the entries expected, 7 where untouched. */
+static void line(line_call *call, const plot *p, uint32_t post, uint32_t run, size_t length,
+                 uint32_t code, uint32_t count, uint16_t a, uint16_t b, uint16_t c,
+                 const char *what)
+{
+    size_t n = posts_of(p), i;
+    const uint16_t expected[3] = {a, b, c};
+    int32_t *heights = (int32_t *)lent(n * sizeof *heights, p->heights);
+    uint16_t *list = (uint16_t *)lent(length * sizeof *list, NULL);
+    sn_entries got;
+
+    for (i = 0; i < length; i++)
+        list[i] = 7;
+    got = call(p->rows, p->columns, heights, n, post, run, list, length);
+    check(got.code == code && got.place == 0 && got.count == count, what);
+    for (i = 0; i < length; i++)
+        check(list[i] == (i < 3 ? expected[i] : 7), what);
+    free(heights);
+    free(list);
+}
+
+static void lines(void)
+{
+    const uint16_t V = SN_VIRTUAL_PIT;
+    static const uint16_t peaks[4] = {1, 5, 7, 3}, pits[4] = {2, 8, 6, 0};
+    uint32_t run;
+
+    line(sn_thalweg, &crossed, 2, 0, 3, SN_OK, 3, 2, 1, V, "crossed, water line 0");
+    line(sn_thalweg, &crossed, 2, 0, 5, SN_OK, 3, 2, 1, V, "later entries stay");
+    line(sn_thalweg, &crossed, 2, 1, 2, SN_OK, 2, 2, V, 7, "crossed, water line 1");
+    line(sn_thalweg, &crossed, 2, 0, 2, SN_LINE_TOO_LONG, 0, 7, 7, 7, "a list of two");
+    line(sn_thalweg, &crossed, 2, 0, 0, SN_LINE_TOO_LONG, 0, 7, 7, 7, "an empty list");
+    line(sn_thalweg, &crossed, 2, 2, 3, SN_NO_SUCH_RUN, 0, 7, 7, 7, "crossed, run 2");
+    line(sn_thalweg, &crossed, 1, 0, 3, SN_NOT_A_SADDLE, 0, 7, 7, 7, "no saddle");
+    line(sn_thalweg, &crossed, 4, 0, 3, SN_NO_SUCH_POST, 0, 7, 7, 7, "no post");
+    line(sn_ridge, &crossed, 2, 0, 2, SN_OK, 2, 2, 0, 7, "crossed, crest line 0");
+    line(sn_ridge, &crossed, 2, 1, 2, SN_OK, 2, 2, 3, 7, "crossed, crest line 1");
+    line(sn_ridge, &crossed, 2, 2, 2, SN_NO_SUCH_RUN, 0, 7, 7, 7, "crossed, upper run 2");
+    for (run = 0; run < 4; run++) {
+        line(sn_ridge, &star, 4, run, 2, SN_OK, 2, 4, peaks[run], 7, "star, crest line");
+        line(sn_thalweg, &star, 4, run, 4, SN_OK, 3, 4, pits[run], V, "star, water line");
+    }
+    line(sn_ridge, &star, 4, 4, 2, SN_NO_SUCH_RUN, 0, 7, 7, 7, "star, run 4");
+}
+
+/* Reads a 2 by 2 file of these tenths. */
+static sn_size read4(const int32_t *tenths, int32_t *heights)
+{
+    const uint8_t header[SN_FILE_HEADER] = {SN_FILE_VERSION, 0, 0, 0, 18, 2, 2};
+    uint8_t *file = (uint8_t *)lent(SN_FILE_SIZE(2, 2), NULL);
+    sn_size got;
+    int i;
+
+    memcpy(file, header, sizeof header);
+    for (i = 0; i < 4; i++) {
+        uint32_t v = (uint32_t)tenths[i];
+        file[7 + 4 * i] = (uint8_t)(v >> 24);
+        file[8 + 4 * i] = (uint8_t)(v >> 16);
+        file[9 + 4 * i] = (uint8_t)(v >> 8);
+        file[10 + 4 * i] = (uint8_t)v;
+    }
+    got = sn_read_survey(file, SN_FILE_SIZE(2, 2), heights, 4);
+    free(file);
+    return got;
+}
+
+static void files(void)
+{
+    static const int32_t halves[4] = {4, 5, 15, -5}, whole[4] = {0, 1, 2, -1};
+    static const int32_t most[4] = {10000000, -10000000, 0, 0};
+    static const int32_t beyond[4] = {0, 0, 10000001, -10000001};
+    int32_t *heights = (int32_t *)lent(4 * sizeof *heights, NULL);
+    uint8_t *file = (uint8_t *)lent(SN_FILE_SIZE(2, 2), NULL);
+    int32_t back[4];
+    sn_size got = read4(halves, heights);
+    sn_answer wrote;
+
+    check(got.code == SN_OK && got.rows == 2 && got.columns == 2, "tenths are read");
+    check(memcmp(heights, whole, sizeof whole) == 0, "halves go away from zero");
+    got = read4(beyond, heights);
+    check(got.code == SN_HEIGHT_OUT_OF_RANGE && got.place == 2 && got.rows == 0,
+          "10,000,001 tenths");
+    check(memcmp(heights, whole, sizeof whole) == 0, "a refused file leaves the heights");
+    got = read4(most, heights);
+    check(got.code == SN_OK && heights[0] == SN_MAX_HEIGHT && heights[1] == SN_MIN_HEIGHT,
+          "10,000,000 tenths");
+    got = sn_read_survey(file, 0, heights, 4);
+    check(got.code == SN_FILE_TOO_SHORT, "empty file");
+    got = sn_read_survey(NULL, 0, heights, 4);
+    check(got.code == SN_FILE_TOO_SHORT, "no file");
+
+    memcpy(heights, crossed.heights, 4 * sizeof *heights);
+    wrote = sn_write_survey(2, 2, heights, 4, file, SN_FILE_SIZE(2, 2));
+    check(wrote.code == SN_OK && file[4] == 18 && file[10] == 50, "crossed is written");
+    got = sn_read_survey(file, SN_FILE_SIZE(2, 2), back, 4);
+    check(got.code == SN_OK && memcmp(back, heights, sizeof back) == 0, "and read back");
+    file[0] = 2;
+    got = sn_read_survey(file, SN_FILE_SIZE(2, 2), back, 4);
+    check(got.code == SN_BAD_VERSION, "version 2");
+    free(heights);
+    free(file);
+}
+
+static void sides(void)
+{
+    static const uint32_t tried[4] = {1, 2, 120, 121};
+    int i, j;
+
+    for (i = 0; i < 4; i++)
+        for (j = 0; j < 4; j++) {
+            uint32_t rows = tried[i], columns = tried[j];
+            size_t n = (size_t)rows * columns;
+            int good = i % 3 != 0 && j % 3 != 0;
+            int32_t *heights = (int32_t *)lent(n * sizeof *heights, NULL);
+            uint8_t *marks = (uint8_t *)lent(n, NULL);
+            sn_counts got = sn_survey(rows, columns, heights, n, marks, n);
+            sn_answer shot = sn_reshoot(rows, columns, heights, n, marks, n, 0, 1);
+
+            check(got.code == (good ? (uint32_t)SN_OK : (uint32_t)SN_BAD_SIDES), "sides");
+            check(got.peaks + got.pits == (good ? got.saddles + 2 : 0), "balance");
+            check(shot.code == got.code && heights[0] == (good ? 1 : 0), "re-shoot");
+            free(heights);
+            free(marks);
+        }
+}
+
+/* The walks of the hollow, and its dales and hills. */
+static void walks(void)
+{
+    static const uint16_t dale[9] = {65535, 65535, 65535, 65535, 4, 65535, 65535, 65535, 65535};
+    uint16_t *dales = (uint16_t *)lent(sizeof dale, NULL);
+    uint16_t *hills = (uint16_t *)lent(sizeof dale, NULL);
+    sn_next down = sn_next_down(3, 3, hollow.heights, 9, 4);
+    sn_next up = sn_next_up(3, 3, hollow.heights, 9, 4);
+    sn_answer got = sn_dales_and_hills(3, 3, hollow.heights, 9, dales, 9, hills, 9);
+    int i;
+
+    check(down.code == SN_OK && down.post == 4, "a pit stays");
+    check(up.code == SN_OK && up.post == 8, "up from the hollow");
+    down = sn_next_down(3, 3, hollow.heights, 9, 5);
+    check(down.code == SN_OK && down.post == SN_VIRTUAL_PIT, "down from the border");
+    up = sn_next_up(3, 3, hollow.heights, 9, 8);
+    check(up.code == SN_OK && up.post == 8, "a peak stays");
+    up = sn_next_up(3, 3, hollow.heights, 9, 9);
+    check(up.code == SN_NO_SUCH_POST && up.post == 0, "no such post");
+    check(got.code == SN_OK && memcmp(dales, dale, sizeof dale) == 0, "dales of the hollow");
+    for (i = 0; i < 9; i++)
+        check(hills[i] == 8, "one hill");
+    free(dales);
+    free(hills);
+}
+
+int main(void)
+{
+    const plot *const plots[4] = {&flat, &crossed, &star, &hollow};
+    int i;
+
+    for (i = 0; i < 4; i++) {
+        survey(plots[i]);
+        reshoots(plots[i]);
+    }
+    lines();
+    files();
+    sides();
+    walks();
+    printf("%d passed, %d failed\n", passed, failed);
+    return failed != 0;
+}

@@ -1,0 +1,67 @@
+//! What is tried.
+
+mod bench_plots;
+mod bounds;
+mod files;
+mod refusals;
+mod series;
+mod whole_plots;
+
+use crate::call::{Call, Kind};
+use crate::opinion::file_of;
+use crate::plots::Chance;
+use crate::surface::{Plot, Way};
+use crate::tester::Tester;
+
+pub fn all(t: &mut Tester, chance: &mut Chance, long: bool) {
+    let times = if long { 20 } else { 1 };
+    bench_plots::bench_plots(t);
+    refusals::refusals(t, chance, 12 * times);
+    bounds::boundaries(t, chance);
+    bounds::other_shape(t, chance);
+    files::files(t, chance, times);
+    series::never_surveyed(t, chance, 2000 * times);
+    whole_plots::small_random(t, chance, 4000 * times);
+    series::series(t, chance, times);
+    whole_plots::exhaustive(t, chance, long);
+    whole_plots::every_post(t, chance, long);
+    whole_plots::large_random(t, chance, 12 * times);
+}
+
+const WAYS: [(Way, Kind, Kind); 2] =
+    [(Way::Down, Kind::NextDown, Kind::Thalweg), (Way::Up, Kind::NextUp, Kind::Ridge)];
+
+/// A call of a kind that is accepted, with lists of their right size and any
+/// content. A line call takes the first saddle, if there is one.
+fn good(kind: Kind, rows: usize, columns: usize, heights: &[i32], chance: &mut Chance) -> Call {
+    let posts = rows * columns;
+    let mut call = Call { kind, heights: heights.to_vec(), ..Call::default() };
+    (call.rows, call.columns) = (rows as u32, columns as u32);
+    match kind {
+        Kind::Survey => call.marks = chance.bytes(posts),
+        Kind::Reshoot => {
+            call.marks = chance.bytes(posts);
+            call.post = chance.below(posts) as u32;
+            call.height = chance.within(-3, 3);
+        }
+        Kind::NextDown | Kind::NextUp => call.post = chance.below(posts) as u32,
+        Kind::Thalweg | Kind::Ridge => {
+            let plot = Plot { rows, columns, heights };
+            let saddle = (0..posts).find(|&p| plot.is_saddle(p));
+            call.post = saddle.unwrap_or(0) as u32;
+            call.line = chance.shorts(posts + 1);
+        }
+        Kind::DalesAndHills => {
+            call.dales = chance.shorts(posts);
+            call.hills = chance.shorts(posts);
+        }
+        Kind::ReadSurvey => {
+            (call.rows, call.columns) = (0, 0);
+            let tenths: Vec<i32> = heights.iter().map(|h| h * 10).collect();
+            call.file = file_of(rows as u8, columns as u8, &tenths);
+            call.heights = chance.shorts(posts).iter().map(|&h| h as i32).collect();
+        }
+        Kind::WriteSurvey => call.file = chance.bytes(7 + 4 * posts),
+    }
+    call
+}

@@ -1,0 +1,104 @@
+//! Survey files.
+
+use super::good;
+use crate::call::{Call, Kind};
+use crate::opinion::file_of;
+use crate::plots::{ground, Chance, GROUNDS};
+use crate::tester::{law, Tester};
+
+pub fn read(file: Vec<u8>, room: usize) -> Call {
+    Call { kind: Kind::ReadSurvey, file, heights: vec![77; room], ..Call::default() }
+}
+
+pub fn files(t: &mut Tester, chance: &mut Chance, times: usize) {
+    t.group("files: round trip");
+    for i in 0..300 * times {
+        let (rows, columns) = match i {
+            0 => (120, 120),
+            1 => (2, 120),
+            2 => (120, 2),
+            _ => (2 + chance.below(20), 2 + chance.below(20)),
+        };
+        let heights = ground(GROUNDS[i % GROUNDS.len()], rows, columns, chance);
+        let outcome = t
+            .agree(&good(Kind::WriteSurvey, rows, columns, &heights, chance))
+            .and_then(|(_, written)| t.agree(&read(written.file, heights.len())))
+            .and_then(|(answer, left)| {
+                law(answer == [0, 0, rows as u32, columns as u32], "the sides come back", &left)?;
+                law(left.heights == heights, "the heights come back", &left)
+            });
+        t.case(outcome);
+    }
+
+    t.group("files: every tenth, and the bounds");
+    let bounds = [0, 1, -1].iter().flat_map(|sign| (9_999_980..=10_000_020).map(move |t| sign * t));
+    let extremes = [i32::MAX, i32::MIN, i32::MAX - 1, i32::MIN + 1];
+    for tenths in (-50..=50).chain(bounds).chain(extremes) {
+        for post in 0..4 {
+            let mut list = [3, 14, -15, 26];
+            list[post] = tenths;
+            let call = read(file_of(2, 2, &list), 4);
+            let outcome = t.agree(&call).and_then(|(answer, left)| {
+                let fits = (-10_000_000..=10_000_000).contains(&tenths);
+                law((answer[0] == 0) == fits, "the range of a filed height", &call)?;
+                law(!fits || left.heights[post] == by_float(tenths), "the rounding", &call)
+            });
+            t.case(outcome);
+        }
+    }
+
+    t.group("files: each byte damaged, each prefix, one byte more");
+    for (rows, columns) in [(2, 2), (3, 2)] {
+        let posts = (rows * columns) as usize;
+        let tenths: Vec<i32> = (0..posts as i32).map(|i| 1234 * i - 2000).collect();
+        let whole = file_of(rows, columns, &tenths);
+        for at in 0..whole.len() {
+            for change in 1..=255 {
+                let mut file = whole.clone();
+                file[at] ^= change;
+                let outcome = t.agree(&read(file, posts)).and_then(|(answer, left)| {
+                    law(at >= 7 || answer[0] != 0, "a damaged header is refused", &left)
+                });
+                t.case(outcome);
+            }
+        }
+        for length in 0..=whole.len() + 1 {
+            let mut file = whole.clone();
+            file.resize(length, 0);
+            for room in [0, posts - 1, posts, posts + 1] {
+                let call = read(file.clone(), room);
+                let good = length == whole.len() && room == posts;
+                let outcome = t.agree(&call).and_then(|(answer, _)| {
+                    law((answer[0] == 0) == good, "only the whole file is accepted", &call)
+                });
+                t.case(outcome);
+            }
+        }
+    }
+
+    t.group("files: damaged by chance");
+    for _ in 0..3000 * times {
+        let (rows, columns) = (2 + chance.below(6), 2 + chance.below(6));
+        let tenths: Vec<i32> =
+            (0..rows * columns).map(|_| chance.within(-10_000_000, 10_000_000)).collect();
+        let mut file = file_of(rows as u8, columns as u8, &tenths);
+        for _ in 0..chance.below(4) {
+            let at = chance.below(file.len());
+            file[at] = chance.next() as u8;
+        }
+        match chance.below(8) {
+            0 => file.truncate(chance.below(file.len())),
+            1 => file.extend(chance.bytes(3)),
+            2 => file = chance.bytes(60),
+            _ => {}
+        }
+        let room = if chance.one_in(8) { chance.below(50) } else { rows * columns };
+        let outcome = t.agree(&read(file, room)).map(drop);
+        t.case(outcome);
+    }
+}
+
+/// The rounding once more, by floating point: `round` takes halves away from 0.
+fn by_float(tenths: i32) -> i32 {
+    (tenths as f64 / 10.0).round() as i32
+}

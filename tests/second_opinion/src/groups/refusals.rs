@@ -1,0 +1,170 @@
+//! Every call with every set of refusals at once.
+
+use super::good;
+use crate::call::{Call, Kind, KINDS};
+use crate::plots::{ground, Chance};
+use crate::surface::Plot;
+use crate::tester::{law, Tester};
+
+/// The rows of the table that a call has a use for, the first that holds wins.
+fn table(kind: Kind) -> &'static [u32] {
+    match kind {
+        Kind::Survey | Kind::DalesAndHills | Kind::WriteSurvey => &[1, 2, 3, 4],
+        Kind::Reshoot => &[1, 2, 3, 4, 5, 6],
+        Kind::NextDown | Kind::NextUp => &[1, 2, 4, 5],
+        Kind::Thalweg | Kind::Ridge => &[1, 2, 4, 5, 7, 8, 9],
+        Kind::ReadSurvey => &[10, 11, 1, 12, 3, 4],
+    }
+}
+
+const BAD_SIDES: [u32; 8] = [0, 1, 121, 122, 255, 65536, 1 << 31, u32::MAX];
+const BAD_HEIGHTS: [i32; 5] = [1_000_001, -1_000_001, i32::MAX, i32::MIN, 5_000_000];
+
+/// Another length than n for a list.
+fn resize<T: Copy + Default>(list: &mut Vec<T>, chance: &mut Chance) {
+    let n = list.len();
+    let length = chance.of(&[0, 1, n - 1, n + 1, n + 2, 2 * n]);
+    list.resize(if length == n { n + 1 } else { length }, T::default());
+}
+
+/// Makes a row of the table hold, and gives the place it must be refused with.
+pub fn spoil(call: &mut Call, row: u32, chance: &mut Chance) -> u32 {
+    let reading = call.kind == Kind::ReadSurvey;
+    match row {
+        1 if reading => {
+            let at = 5 + chance.below(2);
+            call.file[at] = chance.of(&[0, 1, 121, 122, 255]);
+        }
+        1 => {
+            let side = chance.of(&BAD_SIDES);
+            let both = chance.one_in(3);
+            if both || chance.one_in(2) {
+                call.rows = side;
+            } else {
+                call.columns = side;
+            }
+            if both {
+                call.columns = chance.of(&BAD_SIDES);
+            }
+        }
+        2 => resize(&mut call.heights, chance),
+        3 => match call.kind {
+            Kind::Survey | Kind::Reshoot => resize(&mut call.marks, chance),
+            Kind::WriteSurvey => resize(&mut call.file, chance),
+            Kind::ReadSurvey => resize(&mut call.heights, chance),
+            _ => match chance.below(3) {
+                0 => resize(&mut call.dales, chance),
+                1 => resize(&mut call.hills, chance),
+                _ => {
+                    resize(&mut call.dales, chance);
+                    resize(&mut call.hills, chance);
+                }
+            },
+        },
+        4 => {
+            let posts = if reading { (call.file.len() - 7) / 4 } else { call.heights.len() };
+            let places = [chance.below(posts), chance.below(posts)];
+            for place in places {
+                if reading {
+                    let tenths = chance.of(&[10_000_001, -10_000_001, i32::MAX, i32::MIN]);
+                    call.file[7 + 4 * place..][..4].copy_from_slice(&tenths.to_be_bytes());
+                } else {
+                    call.heights[place] = chance.of(&BAD_HEIGHTS);
+                }
+            }
+            return places[0].min(places[1]) as u32;
+        }
+        5 => {
+            let posts = call.heights.len() as u32;
+            call.post = chance.of(&[posts, posts + 1, 65535, 65536, 1 << 31, u32::MAX]);
+        }
+        6 => call.height = chance.of(&BAD_HEIGHTS),
+        7 => {
+            let plot = Plot {
+                rows: call.rows as usize,
+                columns: call.columns as usize,
+                heights: &call.heights,
+            };
+            let others: Vec<usize> = (0..plot.posts()).filter(|&p| !plot.is_saddle(p)).collect();
+            call.post = chance.of(&others) as u32;
+        }
+        8 => call.run += chance.of(&[4, 5, 1 << 16, u32::MAX - 4]),
+        9 => {
+            let mut full = call.clone();
+            let count = full.by_opinion()[2] as usize;
+            call.line.truncate(chance.of(&[0, 1, count - 1]));
+        }
+        10 => call.file.truncate(chance.below(7)),
+        11 => call.file[0] = chance.of(&[0, 2, 3, 128, 255]),
+        12 => {
+            let stated = u32::from_be_bytes(call.file[1..5].try_into().unwrap());
+            let state =
+                |call: &mut Call, count: u32| call.file[1..5].copy_from_slice(&count.to_be_bytes());
+            match chance.below(7) {
+                0 => state(call, stated + 1),
+                1 => state(call, stated - 1),
+                2 => state(call, 0),
+                3 => state(call, stated | 1 << 31),
+                4 => call.file.push(0),
+                5 => drop(call.file.pop()),
+                _ => {
+                    // Stated and present agree, and the count rule is broken.
+                    call.file.extend([0; 4]);
+                    state(call, stated + 4);
+                }
+            }
+        }
+        _ => panic!("no such row: {row}"),
+    }
+    0
+}
+
+/// For every call, every set of refusals at once, the empty one included.
+pub fn refusals(t: &mut Tester, chance: &mut Chance, times: usize) {
+    for kind in KINDS {
+        t.group(&format!("{kind:?}: every set of refusals"));
+        let table = table(kind);
+        for set in 0..1 << table.len() {
+            for _ in 0..times {
+                let mut call = sheet_with_saddle(kind, chance);
+                let rows: Vec<u32> =
+                    (0..table.len()).filter(|i| set >> i & 1 == 1).map(|i| table[i]).collect();
+                // The upper rows last, so that none of the lower is undone.
+                let mut place = 0;
+                for &row in rows.iter().rev() {
+                    place = spoil(&mut call, row, chance);
+                }
+                let code = rows.first().copied().unwrap_or(0);
+                let outcome = t.agree(&call).and_then(|(answer, left)| {
+                    law(answer[0] == code, "the upper row wins", &call)?;
+                    law(answer[1] == place, "the place", &call)?;
+                    if code != 0 {
+                        law(answer[2..].iter().all(|&v| v == 0), "other values are 0", &call)?;
+                        law(left == call, "no list changes", &call)?;
+                    }
+                    Ok(())
+                });
+                t.case(outcome);
+            }
+        }
+    }
+}
+
+/// A good call; a line call for any run of any saddle.
+fn sheet_with_saddle(kind: Kind, chance: &mut Chance) -> Call {
+    loop {
+        let (rows, columns) = (2 + chance.below(6), 2 + chance.below(6));
+        let heights = ground("few heights", rows, columns, chance);
+        let plot = Plot { rows, columns, heights: &heights };
+        let saddles: Vec<usize> = (0..plot.posts()).filter(|&p| plot.is_saddle(p)).collect();
+        if !saddles.is_empty() {
+            let mut call = good(kind, rows, columns, &heights, chance);
+            if matches!(kind, Kind::Thalweg | Kind::Ridge) {
+                let saddle = chance.of(&saddles);
+                call.post = saddle as u32;
+                call.run = chance.below(plot.mark(saddle) as usize - 1) as u32;
+            }
+            return call;
+        }
+    }
+}

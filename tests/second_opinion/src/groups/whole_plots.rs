@@ -1,0 +1,188 @@
+//! Whole plots: every plot of a few small sizes, and larger ones by chance.
+
+use super::{good, WAYS};
+use crate::call::{Call, Kind};
+use crate::opinion::in_one_piece;
+use crate::plots::{ground, Chance, GROUNDS};
+use crate::surface::{Plot, Way, VIRTUAL_PIT};
+use crate::tester::{law, Outcome, Tester};
+
+/// Everything about one plot. Of a plot with more than `most` posts only so
+/// many, by chance, are asked for their next posts and their lines.
+pub fn whole_plot(
+    t: &Tester,
+    rows: usize,
+    columns: usize,
+    heights: &[i32],
+    most: usize,
+    chance: &mut Chance,
+) -> Outcome {
+    let plot = Plot { rows, columns, heights };
+    let posts = plot.posts();
+
+    let survey = good(Kind::Survey, rows, columns, heights, chance);
+    let (answer, left) = t.agree(&survey)?;
+    let marks = left.marks;
+    law(answer[0] == 0, "a survey is accepted", &survey)?;
+    law(answer[2] + answer[3] == answer[4] + 2, "peaks + pits - saddles = 2", &survey)?;
+
+    let parting = good(Kind::DalesAndHills, rows, columns, heights, chance);
+    let (answer, left) = t.agree(&parting)?;
+    let names = [left.dales, left.hills];
+    law(answer[0] == 0, "dales and hills are accepted", &parting)?;
+    for (list, mark, (way, ..)) in [(&names[0], 2, WAYS[0]), (&names[1], 1, WAYS[1])] {
+        let mut named: Vec<usize> = list.iter().map(|&v| v as usize).collect();
+        named.sort();
+        named.dedup();
+        let mut ends: Vec<usize> = (0..posts).filter(|&p| marks[p] == mark).collect();
+        if way == Way::Down {
+            ends.push(VIRTUAL_PIT);
+        }
+        law(named == ends, "names are exactly the pits or peaks", &parting)?;
+        law(in_one_piece(&plot, list, way), "dales and hills are in one piece", &parting)?;
+    }
+
+    let mut asked: Vec<usize> = (0..posts).collect();
+    if posts > most {
+        asked = (0..most).map(|_| chance.below(posts)).collect();
+    }
+    for ((way, next, line), names) in WAYS.into_iter().zip(&names) {
+        let mut walks = vec![None; posts];
+        let mut call = good(next, rows, columns, heights, chance);
+        for &post in &asked {
+            call.post = post as u32;
+            let (answer, _) = t.agree(&call)?;
+            let then = answer[2] as usize;
+            let moves =
+                if way == Way::Down { plot.below(then, post) } else { plot.below(post, then) };
+            law(moves || then == post, "a step falls or rises", &call)?;
+            walks[post] = Some(then);
+        }
+        if asked.len() == posts {
+            for post in 0..posts {
+                let mut end = post;
+                while end != VIRTUAL_PIT && walks[end] != Some(end) {
+                    end = walks[end].unwrap();
+                }
+                law(end == names[post] as usize, "the walk ends at the name", &parting)?;
+            }
+        }
+        let call = good(line, rows, columns, heights, chance);
+        for &post in &asked {
+            let call = Call { post: post as u32, ..call.clone() };
+            lines_of(t, &plot, way, call, marks[post])?;
+        }
+    }
+    Ok(())
+}
+
+/// Every run of one post and one beyond, into lists of three lengths.
+fn lines_of(t: &Tester, plot: &Plot, way: Way, mut call: Call, mark: u8) -> Outcome {
+    let room = call.line.clone();
+    if mark < 3 {
+        let (answer, _) = t.agree(&call)?;
+        return law(answer[0] == 7, "no line of a post that is no saddle", &call);
+    }
+    let runs = mark as u32 - 1;
+    for run in 0..runs {
+        call.run = run;
+        call.line = room.clone();
+        let (answer, left) = t.agree(&call)?;
+        law(answer[0] == 0, "every run of a saddle has a line", &call)?;
+        let count = answer[2] as usize;
+        let line: Vec<usize> = left.line[..count].iter().map(|&v| v as usize).collect();
+        for pair in line.windows(2) {
+            let moves = if way == Way::Down {
+                plot.below(pair[1], pair[0])
+            } else {
+                plot.below(pair[0], pair[1])
+            };
+            law(moves, "a line falls or rises at every step", &call)?;
+        }
+        let end = line[count - 1];
+        let wanted = if way == Way::Down { 2 } else { 1 };
+        law(
+            end == VIRTUAL_PIT && way == Way::Down || plot.mark(end) == wanted,
+            "a line ends at a pit or peak",
+            &call,
+        )?;
+        for length in [count - 1, count, count + 1] {
+            call.line = room.iter().copied().cycle().take(length).collect();
+            let (answer, _) = t.agree(&call)?;
+            law((answer[0] == 9) == (length < count), "refusal 9 by the list's length", &call)?;
+        }
+    }
+    call.run = runs;
+    let (answer, _) = t.agree(&call)?;
+    law(answer[0] == 8, "no line of a run beyond the last", &call)
+}
+
+/// Every plot of a size over so many heights.
+pub fn exhaustive(t: &mut Tester, chance: &mut Chance, long: bool) {
+    let mut sizes = vec![(2, 2, 4), (2, 3, 4), (3, 2, 4), (3, 3, 3), (2, 4, 2), (4, 2, 2)];
+    if long {
+        sizes.extend([(3, 3, 4), (3, 4, 2), (4, 3, 2), (4, 4, 2), (2, 4, 3), (4, 2, 3)]);
+    }
+    for (rows, columns, levels) in sizes {
+        t.group(&format!("all plots {rows} by {columns} over {levels} heights"));
+        let posts = rows * columns;
+        for number in 0..(levels as u32).pow(posts as u32) {
+            let digit = |p: usize| (number / (levels as u32).pow(p as u32)) as i32 % levels;
+            let heights: Vec<i32> = (0..posts).map(digit).collect();
+            let outcome = whole_plot(t, rows, columns, &heights, posts, chance);
+            t.case(outcome);
+        }
+    }
+}
+
+pub fn small_random(t: &mut Tester, chance: &mut Chance, times: usize) {
+    t.group("plots up to 12 by 12 by chance");
+    for i in 0..times {
+        let (rows, columns) = (2 + chance.below(11), 2 + chance.below(11));
+        let heights = ground(GROUNDS[i % GROUNDS.len()], rows, columns, chance);
+        let outcome = whole_plot(t, rows, columns, &heights, 40, chance);
+        t.case(outcome);
+    }
+}
+
+pub fn large_random(t: &mut Tester, chance: &mut Chance, times: usize) {
+    t.group("large plots and strips");
+    for _ in 0..times {
+        for kind in GROUNDS {
+            let mut sizes = vec![(120, 120), (2, 120), (120, 2), (3, 120), (120, 3)];
+            sizes.extend([(); 4].map(|()| (2 + chance.below(119), 2 + chance.below(119))));
+            for (rows, columns) in sizes {
+                let heights = ground(kind, rows, columns, chance);
+                let outcome = whole_plot(t, rows, columns, &heights, 30, chance);
+                t.case(outcome);
+            }
+        }
+    }
+}
+
+/// Larger plots with every post's walk and every saddle's lines.
+pub fn every_post(t: &mut Tester, chance: &mut Chance, long: bool) {
+    t.group("every post and line of larger plots");
+    let mut sizes = vec![(30, 30), (2, 120), (120, 2)];
+    if long {
+        sizes.push((120, 120));
+    }
+    for (rows, columns) in sizes {
+        for kind in GROUNDS {
+            let heights = ground(kind, rows, columns, chance);
+            let outcome = whole_plot(t, rows, columns, &heights, rows * columns, chance);
+            t.case(outcome);
+        }
+    }
+    // The spirals are what they are meant to be: long walks.
+    for (kind, way) in [("spiral", Way::Down), ("upward spiral", Way::Up)] {
+        let heights = ground(kind, 120, 120, chance);
+        let plot = Plot { rows: 120, columns: 120, heights: &heights };
+        let (mut post, mut steps) = (121, 0);
+        while post != VIRTUAL_PIT && plot.next(post, way) != post {
+            post = plot.next(post, way);
+            steps += 1;
+        }
+        t.case(if steps > 6000 { Ok(()) } else { Err(format!("{kind}: {steps} steps")) });
+    }
+}

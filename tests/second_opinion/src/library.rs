@@ -1,0 +1,192 @@
+//! The library's C calls, with every list against a guard page, so that one
+//! byte read or written out of bounds ends the program.
+
+use crate::call::{Call, Kind};
+use std::ffi::{c_int, c_void};
+use std::ptr::null_mut;
+
+#[repr(C)]
+struct Answer([u32; 2]);
+#[repr(C)]
+struct Counts([u32; 5]);
+#[repr(C)]
+struct Next([u32; 3]);
+#[repr(C)]
+struct Entries([u32; 3]);
+#[repr(C)]
+struct Size([u32; 4]);
+
+extern "C" {
+    fn sn_survey(
+        rows: u32,
+        columns: u32,
+        h: *const i32,
+        hn: usize,
+        m: *mut u8,
+        mn: usize,
+    ) -> Counts;
+    fn sn_reshoot(
+        rows: u32,
+        columns: u32,
+        h: *mut i32,
+        hn: usize,
+        m: *mut u8,
+        mn: usize,
+        post: u32,
+        height: i32,
+    ) -> Answer;
+    fn sn_next_down(rows: u32, columns: u32, h: *const i32, hn: usize, post: u32) -> Next;
+    fn sn_next_up(rows: u32, columns: u32, h: *const i32, hn: usize, post: u32) -> Next;
+    fn sn_thalweg(
+        rows: u32,
+        columns: u32,
+        h: *const i32,
+        hn: usize,
+        post: u32,
+        run: u32,
+        line: *mut u16,
+        ln: usize,
+    ) -> Entries;
+    fn sn_ridge(
+        rows: u32,
+        columns: u32,
+        h: *const i32,
+        hn: usize,
+        post: u32,
+        run: u32,
+        line: *mut u16,
+        ln: usize,
+    ) -> Entries;
+    fn sn_dales_and_hills(
+        rows: u32,
+        columns: u32,
+        h: *const i32,
+        hn: usize,
+        dales: *mut u16,
+        dn: usize,
+        hills: *mut u16,
+        pn: usize,
+    ) -> Answer;
+    fn sn_read_survey(file: *const u8, bytes: usize, h: *mut i32, hn: usize) -> Size;
+    fn sn_write_survey(
+        rows: u32,
+        columns: u32,
+        h: *const i32,
+        hn: usize,
+        file: *mut u8,
+        bytes: usize,
+    ) -> Answer;
+
+    fn mmap(
+        at: *mut c_void,
+        length: usize,
+        access: c_int,
+        flags: c_int,
+        fd: c_int,
+        offset: i64,
+    ) -> *mut c_void;
+    fn mprotect(at: *mut c_void, length: usize, access: c_int) -> c_int;
+}
+
+/// Where a list lies in its memory.
+#[derive(Clone, Copy, PartialEq, Debug)]
+pub enum Edge {
+    /// Its first byte follows a guard page.
+    Start,
+    /// Its last byte precedes a guard page.
+    End,
+    /// As Start, and a list without entries has a null pointer.
+    Null,
+}
+
+/// Memory for one list, between two stretches that nobody can read or write.
+struct Guarded {
+    start: *mut u8,
+}
+
+const GUARD: usize = 1 << 16;
+const ROOM: usize = 1 << 17;
+
+impl Guarded {
+    fn new() -> Guarded {
+        const NONE: c_int = 0;
+        const READ_WRITE: c_int = 3;
+        const PRIVATE_ANONYMOUS: c_int = 0x22;
+        unsafe {
+            let all = mmap(null_mut(), ROOM + 2 * GUARD, NONE, PRIVATE_ANONYMOUS, -1, 0);
+            assert!(all as isize != -1, "no memory");
+            let start = (all as *mut u8).add(GUARD);
+            assert!(mprotect(start.cast(), ROOM, READ_WRITE) == 0, "no memory");
+            Guarded { start }
+        }
+    }
+
+    fn lend<T: Copy>(&self, list: &[T], edge: Edge) -> *mut T {
+        let bytes = std::mem::size_of_val(list);
+        assert!(bytes <= ROOM);
+        if edge == Edge::Null && bytes == 0 {
+            return null_mut();
+        }
+        let offset = if edge == Edge::End { ROOM - bytes } else { 0 };
+        unsafe {
+            let at = self.start.add(offset).cast::<T>();
+            at.copy_from_nonoverlapping(list.as_ptr(), list.len());
+            at
+        }
+    }
+
+    fn give_back<T: Copy>(&self, list: &mut [T], at: *mut T) {
+        if !list.is_empty() {
+            unsafe { list.as_mut_ptr().copy_from_nonoverlapping(at, list.len()) }
+        }
+    }
+}
+
+pub struct Library {
+    memory: [Guarded; 6],
+}
+
+impl Library {
+    pub fn new() -> Library {
+        Library { memory: std::array::from_fn(|_| Guarded::new()) }
+    }
+
+    /// The library's answer; the lists become what it left.
+    pub fn run(&self, call: &mut Call, edge: Edge) -> Vec<u32> {
+        let [m0, m1, m2, m3, m4, m5] = &self.memory;
+        let heights = m0.lend(&call.heights, edge);
+        let marks = m1.lend(&call.marks, edge);
+        let line = m2.lend(&call.line, edge);
+        let dales = m3.lend(&call.dales, edge);
+        let hills = m4.lend(&call.hills, edge);
+        let file = m5.lend(&call.file, edge);
+        let (r, c, p, run) = (call.rows, call.columns, call.post, call.run);
+        let (h, hn) = (heights.cast_const(), call.heights.len());
+        let (mn, ln) = (call.marks.len(), call.line.len());
+        let (dn, pn, fl) = (call.dales.len(), call.hills.len(), call.file.len());
+        let answer = unsafe {
+            match call.kind {
+                Kind::Survey => sn_survey(r, c, h, hn, marks, mn).0.to_vec(),
+                Kind::Reshoot => {
+                    sn_reshoot(r, c, heights, hn, marks, mn, p, call.height).0.to_vec()
+                }
+                Kind::NextDown => sn_next_down(r, c, h, hn, p).0.to_vec(),
+                Kind::NextUp => sn_next_up(r, c, h, hn, p).0.to_vec(),
+                Kind::Thalweg => sn_thalweg(r, c, h, hn, p, run, line, ln).0.to_vec(),
+                Kind::Ridge => sn_ridge(r, c, h, hn, p, run, line, ln).0.to_vec(),
+                Kind::DalesAndHills => {
+                    sn_dales_and_hills(r, c, h, hn, dales, dn, hills, pn).0.to_vec()
+                }
+                Kind::ReadSurvey => sn_read_survey(file, fl, heights, hn).0.to_vec(),
+                Kind::WriteSurvey => sn_write_survey(r, c, h, hn, file, fl).0.to_vec(),
+            }
+        };
+        m0.give_back(&mut call.heights, heights);
+        m1.give_back(&mut call.marks, marks);
+        m2.give_back(&mut call.line, line);
+        m3.give_back(&mut call.dales, dales);
+        m4.give_back(&mut call.hills, hills);
+        m5.give_back(&mut call.file, file);
+        answer
+    }
+}

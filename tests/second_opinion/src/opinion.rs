@@ -1,0 +1,258 @@
+//! Every call as document 01 tells it: the refusal table, then the answer. A
+//! list is handed in as lent and comes back as the call must leave it.
+
+use crate::surface::{counts, Plot, Way, VIRTUAL_PIT};
+
+type Refusal = (u32, u32);
+
+const HEIGHT: i64 = 1_000_000;
+const TENTHS: i64 = 10_000_000;
+
+fn outside(value: i32, bound: i64) -> bool {
+    (value as i64) < -bound || (value as i64) > bound
+}
+
+fn row_1(rows: u32, columns: u32) -> Result<(), Refusal> {
+    let good = 2..=120;
+    if good.contains(&rows) && good.contains(&columns) {
+        Ok(())
+    } else {
+        Err((1, 0))
+    }
+}
+
+fn row_2(plot: &Plot) -> Result<(), Refusal> {
+    if plot.heights.len() == plot.posts() {
+        Ok(())
+    } else {
+        Err((2, 0))
+    }
+}
+
+fn row_3(length: usize, size: usize) -> Result<(), Refusal> {
+    if length == size {
+        Ok(())
+    } else {
+        Err((3, 0))
+    }
+}
+
+fn row_4(heights: &[i32], bound: i64) -> Result<(), Refusal> {
+    match heights.iter().position(|&h| outside(h, bound)) {
+        None => Ok(()),
+        Some(post) => Err((4, post as u32)),
+    }
+}
+
+fn row_5(post: u32, plot: &Plot) -> Result<(), Refusal> {
+    if (post as usize) < plot.posts() {
+        Ok(())
+    } else {
+        Err((5, 0))
+    }
+}
+
+fn plot(rows: u32, columns: u32, heights: &[i32]) -> Result<Plot<'_>, Refusal> {
+    row_1(rows, columns)?;
+    let plot = Plot { rows: rows as usize, columns: columns as usize, heights };
+    row_2(&plot)?;
+    Ok(plot)
+}
+
+/// Code, place and the values, which are 0 after a refusal.
+fn answer<const N: usize>(outcome: Result<Vec<u32>, Refusal>) -> [u32; N] {
+    let mut answer = [0; N];
+    match outcome {
+        Ok(values) => answer[2..].copy_from_slice(&values),
+        Err((code, place)) => (answer[0], answer[1]) = (code, place),
+    }
+    answer
+}
+
+pub fn survey(rows: u32, columns: u32, heights: &[i32], marks: &mut [u8]) -> [u32; 5] {
+    answer((|| {
+        let plot = plot(rows, columns, heights)?;
+        row_3(marks.len(), plot.posts())?;
+        row_4(heights, HEIGHT)?;
+        marks.copy_from_slice(&plot.marks());
+        Ok(counts(marks).to_vec())
+    })())
+}
+
+pub fn reshoot(
+    rows: u32,
+    columns: u32,
+    heights: &mut [i32],
+    marks: &mut [u8],
+    post: u32,
+    height: i32,
+) -> [u32; 2] {
+    answer((|| {
+        let old = plot(rows, columns, heights)?;
+        row_3(marks.len(), old.posts())?;
+        row_4(heights, HEIGHT)?;
+        row_5(post, &old)?;
+        if outside(height, HEIGHT) {
+            return Err((6, 0));
+        }
+        heights[post as usize] = height;
+        let new = plot(rows, columns, heights)?;
+        marks[post as usize] = new.mark(post as usize);
+        for p in new.touching(post as usize) {
+            marks[p] = new.mark(p);
+        }
+        Ok(vec![])
+    })())
+}
+
+pub fn next(way: Way, rows: u32, columns: u32, heights: &[i32], post: u32) -> [u32; 3] {
+    answer((|| {
+        let plot = plot(rows, columns, heights)?;
+        row_4(heights, HEIGHT)?;
+        row_5(post, &plot)?;
+        Ok(vec![plot.next(post as usize, way) as u32])
+    })())
+}
+
+pub fn line(
+    way: Way,
+    rows: u32,
+    columns: u32,
+    heights: &[i32],
+    post: u32,
+    run: u32,
+    list: &mut [u16],
+) -> [u32; 3] {
+    answer((|| {
+        let plot = plot(rows, columns, heights)?;
+        row_4(heights, HEIGHT)?;
+        row_5(post, &plot)?;
+        if !plot.is_saddle(post as usize) {
+            return Err((7, 0));
+        }
+        let runs = plot.runs(post as usize, way);
+        let members = runs.get(run as usize).ok_or((8, 0))?;
+        let line = plot.line(post as usize, way, members);
+        if line.len() > list.len() {
+            return Err((9, 0));
+        }
+        for (entry, &vertex) in list.iter_mut().zip(&line) {
+            *entry = vertex as u16;
+        }
+        Ok(vec![line.len() as u32])
+    })())
+}
+
+pub fn dales_and_hills(
+    rows: u32,
+    columns: u32,
+    heights: &[i32],
+    dales: &mut [u16],
+    hills: &mut [u16],
+) -> [u32; 2] {
+    answer((|| {
+        let plot = plot(rows, columns, heights)?;
+        row_3(dales.len(), plot.posts())?;
+        row_3(hills.len(), plot.posts())?;
+        row_4(heights, HEIGHT)?;
+        for (list, way) in [(dales, Way::Down), (hills, Way::Up)] {
+            for (entry, end) in list.iter_mut().zip(plot.ends(way)) {
+                *entry = end as u16;
+            }
+        }
+        Ok(vec![])
+    })())
+}
+
+/// Tenths to whole millimetres, a half going away from zero.
+pub fn rounded(tenths: i32) -> i32 {
+    let size = (tenths as i64).abs();
+    let whole = size / 10 + if size % 10 >= 5 { 1 } else { 0 };
+    (if tenths < 0 { -whole } else { whole }) as i32
+}
+
+pub fn read_survey(file: &[u8], heights: &mut [i32]) -> [u32; 4] {
+    answer((|| {
+        if file.len() < 7 {
+            return Err((10, 0));
+        }
+        if file[0] != 1 {
+            return Err((11, 0));
+        }
+        let (rows, columns) = (file[5] as u32, file[6] as u32);
+        row_1(rows, columns)?;
+        let stated = u32::from_be_bytes(file[1..5].try_into().unwrap()) as usize;
+        let posts = (rows * columns) as usize;
+        if stated != file.len() - 5 || stated != 2 + 4 * posts {
+            return Err((12, 0));
+        }
+        row_3(heights.len(), posts)?;
+        let tenths: Vec<i32> = file[7..]
+            .chunks(4)
+            .map(|bytes| i32::from_be_bytes(bytes.try_into().unwrap()))
+            .collect();
+        row_4(&tenths, TENTHS)?;
+        for (height, &tenth) in heights.iter_mut().zip(&tenths) {
+            *height = rounded(tenth);
+        }
+        Ok(vec![rows, columns])
+    })())
+}
+
+/// A survey file of these tenths, fit or not.
+pub fn file_of(rows: u8, columns: u8, tenths: &[i32]) -> Vec<u8> {
+    let mut file = vec![1];
+    file.extend((2 + 4 * tenths.len() as u32).to_be_bytes());
+    file.extend([rows, columns]);
+    for tenth in tenths {
+        file.extend(tenth.to_be_bytes());
+    }
+    file
+}
+
+pub fn write_survey(rows: u32, columns: u32, heights: &[i32], file: &mut [u8]) -> [u32; 2] {
+    answer((|| {
+        let plot = plot(rows, columns, heights)?;
+        row_3(file.len(), 7 + 4 * plot.posts())?;
+        row_4(heights, HEIGHT)?;
+        let tenths: Vec<i32> = heights.iter().map(|h| h * 10).collect();
+        file.copy_from_slice(&file_of(rows as u8, columns as u8, &tenths));
+        Ok(vec![])
+    })())
+}
+
+/// Is each set of members with one name in one piece along edges, and does the
+/// named vertex belong to it? The virtual pit is a member of its own dale.
+pub fn in_one_piece(plot: &Plot, names: &[u16], way: Way) -> bool {
+    let name_of = |v: usize| if v == VIRTUAL_PIT { VIRTUAL_PIT } else { names[v] as usize };
+    let allowed = |v: usize| way == Way::Down || v != VIRTUAL_PIT;
+    // Edges both ways, so that the virtual pit's are found too.
+    let mut edges = vec![Vec::new(); plot.posts() + 1];
+    let slot = |v: usize| if v == VIRTUAL_PIT { plot.posts() } else { v };
+    for p in 0..plot.posts() {
+        for q in plot.ring(p) {
+            edges[p].push(q);
+            if q == VIRTUAL_PIT {
+                edges[slot(q)].push(p);
+            }
+        }
+    }
+    let mut reached = vec![false; plot.posts() + 1];
+    for p in 0..plot.posts() {
+        let root = name_of(p);
+        if root != VIRTUAL_PIT && root >= plot.posts() || !allowed(root) || name_of(root) != root {
+            return false;
+        }
+        let mut open = vec![root];
+        while let Some(v) = open.pop() {
+            if std::mem::replace(&mut reached[slot(v)], true) {
+                continue;
+            }
+            open.extend(edges[slot(v)].iter().filter(|&&q| allowed(q) && name_of(q) == root));
+        }
+        if !reached[p] {
+            return false;
+        }
+    }
+    true
+}

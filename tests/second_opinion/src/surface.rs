@@ -1,0 +1,200 @@
+//! Document 01's surface network, said as plainly as possible and not fast:
+//! order, edges, ring, runs, marks, walks, lines, dales and hills.
+
+pub const VIRTUAL_PIT: usize = 65535;
+
+/// The two directions in the height order.
+#[derive(Clone, Copy, PartialEq, Eq, Debug)]
+pub enum Way {
+    Down,
+    Up,
+}
+
+/// The ring's places, clockwise from north: row and column steps.
+const PLACES: [(i32, i32); 8] =
+    [(-1, 0), (-1, 1), (0, 1), (1, 1), (1, 0), (1, -1), (0, -1), (-1, -1)];
+const NORTH: usize = 0;
+const EAST: usize = 2;
+const SOUTH: usize = 4;
+const WEST: usize = 6;
+
+pub struct Plot<'a> {
+    pub rows: usize,
+    pub columns: usize,
+    pub heights: &'a [i32],
+}
+
+impl Plot<'_> {
+    pub fn posts(&self) -> usize {
+        self.rows * self.columns
+    }
+
+    /// The post so many rows and columns away, if there is one.
+    fn at(&self, post: usize, rows: i32, columns: i32) -> Option<usize> {
+        let row = (post / self.columns) as i32 + rows;
+        let column = (post % self.columns) as i32 + columns;
+        let inside =
+            0 <= row && row < self.rows as i32 && 0 <= column && column < self.columns as i32;
+        inside.then(|| row as usize * self.columns + column as usize)
+    }
+
+    /// The posts that touch a post by side or corner.
+    pub fn touching(&self, post: usize) -> Vec<usize> {
+        PLACES.iter().filter_map(|&(r, c)| self.at(post, r, c)).collect()
+    }
+
+    /// Is p below q in the height order?
+    pub fn below(&self, p: usize, q: usize) -> bool {
+        if p == VIRTUAL_PIT || q == VIRTUAL_PIT {
+            return p == VIRTUAL_PIT && q != VIRTUAL_PIT;
+        }
+        (self.heights[p], p) < (self.heights[q], q)
+    }
+
+    fn lowest(&self, vertices: &[usize]) -> usize {
+        let mut best = vertices[0];
+        for &v in vertices {
+            if self.below(v, best) {
+                best = v;
+            }
+        }
+        best
+    }
+
+    fn highest(&self, vertices: &[usize]) -> usize {
+        let mut best = vertices[0];
+        for &v in vertices {
+            if self.below(best, v) {
+                best = v;
+            }
+        }
+        best
+    }
+
+    fn extreme(&self, way: Way, vertices: &[usize]) -> usize {
+        match way {
+            Way::Down => self.lowest(vertices),
+            Way::Up => self.highest(vertices),
+        }
+    }
+
+    /// The neighbour at a place of the ring, the virtual pit left out.
+    fn neighbour(&self, post: usize, place: usize) -> Option<usize> {
+        let (r, c) = PLACES[place];
+        let other = self.at(post, r, c)?;
+        if r == 0 || c == 0 {
+            return Some(other);
+        }
+        // The cell that has both at opposite corners is cut through its lowest post.
+        let cell = [post, self.at(post, r, 0)?, self.at(post, 0, c)?, other];
+        let lowest = self.lowest(&cell);
+        (lowest == post || lowest == other).then_some(other)
+    }
+
+    /// Where the virtual pit stands on the ring, if the post is on the border.
+    fn pit_place(&self, post: usize) -> Option<usize> {
+        let (row, column) = (post / self.columns, post % self.columns);
+        if row == 0 {
+            Some(NORTH)
+        } else if column == self.columns - 1 {
+            Some(EAST)
+        } else if row == self.rows - 1 {
+            Some(SOUTH)
+        } else if column == 0 {
+            Some(WEST)
+        } else {
+            None
+        }
+    }
+
+    pub fn ring(&self, post: usize) -> Vec<usize> {
+        let mut ring = Vec::new();
+        for place in 0..8 {
+            if self.pit_place(post) == Some(place) {
+                ring.push(VIRTUAL_PIT);
+            } else if let Some(other) = self.neighbour(post, place) {
+                ring.push(other);
+            }
+        }
+        ring
+    }
+
+    /// The runs of one sort, in the order of their numbers.
+    pub fn runs(&self, post: usize, way: Way) -> Vec<Vec<usize>> {
+        let ring = self.ring(post);
+        let of_sort = |v: usize| self.below(v, post) == (way == Way::Down);
+        if ring.iter().all(|&v| of_sort(v)) {
+            return vec![ring];
+        }
+        let mut runs = Vec::new();
+        for i in 0..ring.len() {
+            let before = ring[(i + ring.len() - 1) % ring.len()];
+            if of_sort(ring[i]) && !of_sort(before) {
+                let mut run = Vec::new();
+                let mut j = i;
+                while of_sort(ring[j]) {
+                    run.push(ring[j]);
+                    j = (j + 1) % ring.len();
+                }
+                runs.push(run);
+            }
+        }
+        runs
+    }
+
+    pub fn mark(&self, post: usize) -> u8 {
+        let lower = self.runs(post, Way::Down).len();
+        let upper = self.runs(post, Way::Up).len();
+        match (lower, upper) {
+            (_, 0) => 1,
+            (0, _) => 2,
+            (1, _) => 0,
+            (k, _) => k as u8 + 1,
+        }
+    }
+
+    pub fn marks(&self) -> Vec<u8> {
+        (0..self.posts()).map(|p| self.mark(p)).collect()
+    }
+
+    pub fn is_saddle(&self, post: usize) -> bool {
+        self.mark(post) >= 3
+    }
+
+    /// Next down or next up.
+    pub fn next(&self, post: usize, way: Way) -> usize {
+        let mut candidates = self.ring(post);
+        candidates.push(post);
+        self.extreme(way, &candidates)
+    }
+
+    /// The line of a saddle along one run.
+    pub fn line(&self, post: usize, way: Way, run: &[usize]) -> Vec<usize> {
+        let mut line = vec![post, self.extreme(way, run)];
+        loop {
+            let last = *line.last().unwrap();
+            if last == VIRTUAL_PIT || self.next(last, way) == last {
+                return line;
+            }
+            line.push(self.next(last, way));
+        }
+    }
+
+    /// For each post the end of its walk: its dale, or its hill.
+    pub fn ends(&self, way: Way) -> Vec<usize> {
+        let next: Vec<usize> = (0..self.posts()).map(|p| self.next(p, way)).collect();
+        let end_of = |mut p: usize| {
+            while p != VIRTUAL_PIT && next[p] != p {
+                p = next[p];
+            }
+            p
+        };
+        (0..self.posts()).map(end_of).collect()
+    }
+}
+
+/// Peaks, pits with the virtual pit, saddles by multiplicity.
+pub fn counts(marks: &[u8]) -> [u32; 3] {
+    let of = |mark: u8| marks.iter().filter(|&&m| m == mark).count() as u32;
+    [of(1), of(2) + 1, of(3) + 2 * of(4) + 3 * of(5)]
+}
