@@ -1,0 +1,51 @@
+// The calls for C: lists come as a pointer and a length, answers go back as structs of numbers. include/surface_network.h declares them.
+use surface::Answer;
+use surface::Counts;
+use surface::Size;
+ghost use mathlib.Core.Path.{_≡_};
+ghost use Rattle.surface.specs.Calls.{surveyAnswer, surveyMarks, reshootAnswer, reshootHeights, reshootMarks, readAnswer, readHeights, writeAnswer, writeFile};
+
+#[no_mangle]
+pub extern "C" fn sn_survey(rows: u32, columns: u32, heights: &[i32], marks: &mut [u8]) -> Counts
+    ensures { λ r. ⌜ r ≡ surveyAnswer rows columns (now (heights .entry)) (now (marks .entry)) ⌝ }
+    ensures { λ _. ⌜ now (marks .exit) ≡ surveyMarks rows columns (now (heights .entry)) (now (marks .entry)) ⌝ }
+{
+    survey::survey(rows, columns, heights, marks)
+}
+
+#[no_mangle]
+pub extern "C" fn sn_reshoot(
+    rows: u32,
+    columns: u32,
+    heights: &mut [i32],
+    marks: &mut [u8],
+    post: u32,
+    height: i32,
+) -> Answer
+    ensures { λ r. ⌜ r ≡ reshootAnswer rows columns (now (heights .entry)) (now (marks .entry)) post height ⌝ }
+    ensures { λ _. ⌜ now (heights .exit) ≡ reshootHeights rows columns (now (heights .entry)) (now (marks .entry)) post height ⌝ }
+    ensures { λ _. ⌜ now (marks .exit) ≡ reshootMarks rows columns (now (heights .entry)) (now (marks .entry)) post height ⌝ }
+{
+    survey::reshoot(rows, columns, heights, marks, post, height)
+}
+
+#[no_mangle]
+pub extern "C" fn sn_read_survey(file: &[u8], heights: &mut [i32]) -> Size
+    ensures { λ r. ⌜ r ≡ readAnswer (now (file .entry)) (now (heights .entry)) ⌝ }
+    ensures { λ _. ⌜ now (heights .exit) ≡ readHeights (now (file .entry)) (now (heights .entry)) ⌝ }
+{
+    survey_file::read_survey(file, heights)
+}
+
+#[no_mangle]
+pub extern "C" fn sn_write_survey(
+    rows: u32,
+    columns: u32,
+    heights: &[i32],
+    file: &mut [u8],
+) -> Answer
+    ensures { λ r. ⌜ r ≡ writeAnswer rows columns (now (heights .entry)) (now (file .entry)) ⌝ }
+    ensures { λ _. ⌜ now (file .exit) ≡ writeFile rows columns (now (heights .entry)) (now (file .entry)) ⌝ }
+{
+    survey_file::write_survey(rows, columns, heights, file)
+}
