@@ -31,3 +31,4 @@ pub mod Series
 pub mod Network
 pub mod Demand
 pub mod Starred
+pub mod StarListing

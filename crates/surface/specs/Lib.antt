@@ -11,3 +11,4 @@ pub mod Calls
 pub mod Series
 pub mod Demand
 pub mod Bench
+pub mod Lister
