@@ -1,0 +1,2 @@
+-- Laws of the paths that a list of next posts makes.
+pub mod Shorter

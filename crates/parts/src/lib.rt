@@ -1,0 +1,2 @@
+// Document 01's dales and hills of a plot.
+mod paths;
