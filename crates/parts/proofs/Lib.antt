@@ -1,2 +1,3 @@
--- Laws of the paths that a list of next posts makes.
+-- Laws of lists of next posts: the paths that they make, and where these end.
 pub mod Shorter
+pub mod Descents
