@@ -3,7 +3,7 @@ use Prim.Native.Nat.{ℕ, zero, suc, _*_, _≤_, _<_}
 use native.Mathlib.Omega.{arith}
 use mathlib.Core.Path.{_≡_, refl, sym, _∙_, ap}
 use mathlib.Core.Logic.{_⊎_, ⊎-elim, inl, inr}
-use mathlib.Core.Bool.{Bool, true, false}
+use mathlib.Core.Bool.{Bool, true, false, cond}
 use mathlib.Core.List.{List, List·Memᴰ}
 use lib.Dec.{ltb}
 use lib.IntN.{ℤ}
@@ -13,7 +13,7 @@ use Rattle.surface.specs.Lists.{listOf}
 use Rattle.surface.specs.Plot.{virtualPit, below, reversed}
 use Rattle.surface.specs.Edges.{throughLowest}
 use Rattle.surface.specs.Marks.{ringOf}
-use Rattle.surface.specs.Lines.{isEnd, next, end, lowestOf, nextDown, nextUp}
+use Rattle.surface.specs.Lines.{isEnd, next, end, lowestOf, nextDown, nextUp, daleAt, hillAt, dalesOf, hillsOf}
 use Rattle.surface.proofs.Bools.{either}
 use Rattle.surface.proofs.ListOf.{length-listOf, getD-listOf, listOf-ext}
 use Rattle.surface.proofs.Order.{StrictTotal, below-strict, reversed-strict}
@@ -88,6 +88,12 @@ module _ {rows columns : ℕ} {hs : List ℤ} (fits : Fits rows columns hs) wher
   next-is true p = refl
   next-is false p = refl
 
+  names-are : (up : Bool) → listOf (end (toward hs up) (ringOf rows columns hs) (lowestOf (toward hs up)) (rows * columns)) (rows * columns)
+      ≡ cond up (hillsOf rows columns hs) (dalesOf rows columns hs)
+  unfolding dalesOf daleAt hillsOf hillAt
+  names-are true = refl
+  names-are false = refl
+
   -- they fit 16 bits
   pub next-fits : (up : Bool) (p : ℕ) → p < rows * columns → nextBy up rows columns hs p < 65536
   unfolding virtualPit
@@ -97,3 +103,14 @@ module _ {rows columns : ℕ} {hs : List ℤ} (fits : Fits rows columns hs) wher
       (λ (k : next (toward hs up) (ringOf rows columns hs) (lowestOf (toward hs up)) p < rows * columns). omega (arith, fits-small fits))
       (λ (k : next (toward hs up) (ringOf rows columns hs) (lowestOf (toward hs up)) p ≡ virtualPit). omega arith)
       (next-vertex (descent up) p (inl h)))
+
+  -- a list filled with them: its paths come to an end, and the ends are the names of the dales, or of the hills
+  module _ (up : Bool) {l : List ℕ} (filled : l ≡ listOf (nextBy up rows columns hs) (rows * columns)) where
+    made : l ≡ nexts (descent up)
+    made = filled ∙ listOf-ext (nextBy up rows columns hs) _ (rows * columns) (λ p _. next-is up p)
+
+    pub filled-ends : Ends l
+    filled-ends = rw made (nexts-end (descent up) few)
+
+    pub filled-parts : listOf (endIn l) (length l) ≡ cond up (hillsOf rows columns hs) (dalesOf rows columns hs)
+    filled-parts = rw made (ends-are (descent up) few ∙ names-are up)
