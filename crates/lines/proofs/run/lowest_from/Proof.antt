@@ -9,10 +9,11 @@ use borrow.Author.Tests.{not-true, not-false}
 use lib.ListN.{length, getD, drop}
 use Rattle.surface.specs.Lists.{takeWhile}
 use Rattle.surface.specs.Edges.{lowest, lowestOr}
+use Rattle.surface.proofs.RunStarts.{while-stop, while-end}
 use Rattle.surface.proofs.Walks.{Vertex}
 use Rattle.plot.specs.Scan.{toward}
 use Rattle.plot.specs.Rings.{held}
-use Rattle.lines.proofs.Running.{long, twice-long, twice-vertex, getD-front, while-stop, while-end, low-first, low-more, low-none}
+use Rattle.lines.proofs.Running.{long, twice-long, twice-vertex, getD-front, low-first, low-more, low-none}
 use Rattle.lines.proofs.run.lowest_from.Statement.{statement}
 use Rattle.lines.proofs.run.lowest_from.Tie as tie
 
