@@ -30,7 +30,7 @@ module _ (v : Verdict) (entries list : List ℕ) where
       → Outcome (record { code = 0; place = 0; count = count }) after
   accepted count after e n l = (rw (e, n), rw (e, l))
 
-module _ (rows columns : ℕ) (hs : List ℤ) (up : Bool) (post run : ℕ) (list : List ℕ) {r : Answer} (a : Placed rows columns hs post r) where
+module _ {rows columns : ℕ} {hs : List ℤ} {post : ℕ} {r : Answer} (a : Placed rows columns hs post r) (up : Bool) (run : ℕ) (list : List ℕ) where
   abbrev v : Verdict
   v = verdictOf rows columns hs up post run list
 

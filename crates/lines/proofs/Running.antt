@@ -118,6 +118,9 @@ module _ (lower : ℕ → ℕ → Bool) (s : ℕ → Bool) (l : List ℕ) where
   unfolding lowestOr
   low-none best j e = rw e
 
+pub lower-vertex : (lower : ℕ → ℕ → Bool) {n : ℕ} (x y : ℕ) → Vertex n x → Vertex n y → Vertex n (lowerOf lower x y)
+lower-vertex lower x y v w = either (lower y x) (λ e. rw e w) (λ e. rw e v)
+
 -- a ring gone round twice
 pub held-long : (r : Ring) → r .len ≤ 8 → length (r .members) ≡ 8 → length (held r) ≡ r .len
 held-long r h k = length-take-le (r .len) (r .members) (omega arith)

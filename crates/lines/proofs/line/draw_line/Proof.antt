@@ -18,7 +18,7 @@ returns : tie.Need-returns
 returns c =
     let p = c .before .before in
     let a = p .before .before .args in
-    not-placed (a .rows) (a .columns) (a .heights .now) (a .up) (a .post) (a .run) (a .line .now) (p .placed .ensures) (c .if1 .taken)
+    not-placed (p .placed .ensures) (a .up) (a .run) (a .line .now) (c .if1 .taken)
 
 start-of-requires : tie.Need-start-of-requires
 start-of-requires c κs = c .before .before .placed .ensures .fits (c .if1 .left)
@@ -28,7 +28,7 @@ returns-2 c =
     let s = c .before .before in
     let p = s .before .before .before in
     let a = p .before .before .args in
-    not-started (a .rows) (a .columns) (a .heights .now) (a .up) (a .post) (a .run) (a .line .now) (p .placed .ensures) (s .before .if1 .left) (s .start-of .ensures) (c .if2 .taken)
+    not-started (p .placed .ensures) (a .up) (a .run) (a .line .now) (s .before .if1 .left) (s .start-of .ensures) (c .if2 .taken)
 
 follow-requires : tie.Need-follow-requires
 follow-requires c κs =
@@ -58,7 +58,8 @@ returns-3 c =
     let s = f .before .before .before in
     let p = s .before .before .before in
     let a = p .before .before .args in
-    too-long (a .rows) (a .columns) (a .heights .now) (a .up) (a .post) (a .run) (a .line .now) (p .placed .ensures) (s .before .if1 .left) (s .start-of .ensures) (f .before .if2 .left) _ (ap (λ (n : ℕ). 1 + n) (entries f)) (c .if3 .taken)
+    too-long (p .placed .ensures) (a .up) (a .run) (a .line .now) (s .before .if1 .left) (s .start-of .ensures) (f .before .if2 .left)
+    _ (ap (λ (n : ℕ). 1 + n) (entries f)) (c .if3 .taken)
 
 write-entries-requires : tie.Need-write-entries-requires
 write-entries-requires c κs =
@@ -80,7 +81,8 @@ returns-4 c =
     let s = f .before .before .before in
     let p = s .before .before .before in
     let a = p .before .before .args in
-    drawn (a .rows) (a .columns) (a .heights .now) (a .up) (a .post) (a .run) (a .line .now) (p .placed .ensures) (s .before .if1 .left) (s .start-of .ensures) (f .before .if2 .left) _ (ap (λ (n : ℕ). 1 + n) (entries f)) (e .if3 .left) _ (c .before .before .write-entries .ensures)
+    drawn (p .placed .ensures) (a .up) (a .run) (a .line .now) (s .before .if1 .left) (s .start-of .ensures) (f .before .if2 .left)
+    _ (ap (λ (n : ℕ). 1 + n) (entries f)) (e .if3 .left) _ (c .before .before .write-entries .ensures)
 
 pub draw-line-spec : {M : Type 1} → statement M
 draw-line-spec =

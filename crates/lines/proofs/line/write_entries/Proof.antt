@@ -75,9 +75,9 @@ loop-again c =
     let s = l .before .before in
     let v = l .loop .inv in
     let i = l .loop .i in
-    let hs = s .args .heights .now in
-    let from = s .args .from in
-    let at : l .loop .at .post ≡ entryOf (s .args .rows) (s .args .columns) hs (from .up) (s .args .p) (from .post) i = v .4 ∙ sym (entry-after (s .args .rows) (s .args .columns) hs (from .up) (s .args .p) (from .post) i (v .0)) in (
+    let a = s .args in
+    let from = a .from in
+    let at = v .4 ∙ sym (entry-after (a .rows) (a .columns) (a .heights .now) (from .up) (a .p) (from .post) i (v .0)) in (
       omega arith,
       omega arith,
       rw (c .next .ensures) (vertex-next (s .pre .0) (l .loop .at .up) (l .loop .at .post) (v .2)),
