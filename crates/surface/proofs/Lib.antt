@@ -16,8 +16,10 @@ pub mod Signs
 pub mod Census
 pub mod Balance
 pub mod RunMembers
+pub mod RunStarts
 pub mod Lowest
 pub mod Walks
+pub mod WalkEntries
 pub mod Pieces
 pub mod Agreement
 pub mod Locality
