@@ -13,6 +13,7 @@ pub mod Offsets
 pub mod RingOnce
 pub mod Runs
 pub mod Signs
+pub mod Turns
 pub mod Census
 pub mod Balance
 pub mod RunMembers

@@ -188,8 +188,8 @@ markBy-le side k h = either (eqb k 0) (λ e. rw e (first side)) (λ e. rw e (eit
     first false = omega arith
 
 pub mark-range : (lower : ℕ → ℕ → Bool) → StrictTotal lower → (rows columns : ℕ) (falls : ℕ → Bool) (p : ℕ)
-  → ((q : ℕ) → List·Memᴰ q (ring rows columns falls p) → q ≡ p → ⊥)
-  → mark lower (ring rows columns falls) p ≤ 5
+    → ((q : ℕ) → List·Memᴰ q (ring rows columns falls p) → q ≡ p → ⊥)
+    → mark lower (ring rows columns falls) p ≤ 5
 unfolding markOfSigns
 mark-range lower o rows columns falls p others =
     rw (mark-signs lower o rows columns falls p others) (markBy-le _ _ (rises-le (signs rows columns falls (λ q. lower q p) p)))
