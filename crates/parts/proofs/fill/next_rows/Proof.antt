@@ -1,5 +1,5 @@
 -- `parts::fill::next_rows` meets its contract. The loop's invariant: the rows above row r are filled, and the diagonals just above it are told.
-use Prim.Native.Nat.{ℕ, _+_, _-_, _*_, _≤_, _<_}
+use Prim.Native.Nat.{ℕ, _+_, _-_, _*_, _≤_}
 use native.Mathlib.Omega.{arith}
 use native.Mathlib.Nat.{one-mul, add-mul}
 use mathlib.Core.Path.{_≡_, refl, _∙_, ap}

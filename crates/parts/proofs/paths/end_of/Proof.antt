@@ -1,10 +1,9 @@
 -- `parts::paths::end_of` meets its contract. The loop's invariant: the path from e ends where that from p does. The measure: the steps left.
 use Prim.Native.Nat.{_<_}
 use native.Mathlib.Omega.{arith}
-use mathlib.Core.Path.{_≡_, sym, _∙_, ap}
-use mathlib.Core.List.{List}
+use mathlib.Core.Path.{_≡_, sym, _∙_}
 use lib.ListN.{length}
-use Rattle.parts.specs.Paths.{endIn, Ends}
+use Rattle.parts.specs.Paths.{endIn}
 use Rattle.parts.proofs.Shorter.{stepsIn, outside, after-stays, entry, shorter-none, read-end, read-nearer}
 use Rattle.parts.proofs.paths.end_of.Statement.{statement}
 use Rattle.parts.proofs.paths.end_of.Tie as tie

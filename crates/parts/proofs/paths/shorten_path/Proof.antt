@@ -1,6 +1,5 @@
 -- `parts::paths::shorten_path` meets its contract. The loop's invariant: paths were only made shorter, the path from e ends at `end`, and p has its entry
 -- as soon as it is passed. The measure: the steps left from e before anything was stored.
-use Prim.Native.Nat.{_<_}
 use native.Mathlib.Omega.{arith}
 use mathlib.Core.Path.{_≡_, refl, sym, _∙_, ap}
 use mathlib.Core.Logic.{_⊎_, ⊎-elim, inl, inr}
