@@ -1,0 +1,116 @@
+-- The paths that a descent's list of next posts makes end where its walks end. Stated over any descent, then of the two directions at once.
+use Prim.Native.Nat.{ℕ, zero, suc, _*_, _≤_, _<_}
+use native.Mathlib.Omega.{arith}
+use mathlib.Core.Path.{_≡_, refl, sym, _∙_, ap}
+use mathlib.Core.Logic.{_⊎_, ⊎-elim, inl, inr}
+use mathlib.Core.Bool.{Bool, true, false, cond}
+use mathlib.Core.List.{List, List·Memᴰ}
+use lib.Dec.{ltb}
+use lib.IntN.{ℤ}
+use lib.ListN.{length, getD}
+use borrow.Author.Tests.{ltb-true, ltb-false}
+use Rattle.surface.specs.Lists.{listOf}
+use Rattle.surface.specs.Plot.{virtualPit, below, reversed}
+use Rattle.surface.specs.Edges.{throughLowest}
+use Rattle.surface.specs.Marks.{ringOf}
+use Rattle.surface.specs.Lines.{isEnd, next, end, lowestOf, nextDown, nextUp, daleAt, hillAt, dalesOf, hillsOf}
+use Rattle.surface.proofs.Bools.{either}
+use Rattle.surface.proofs.ListOf.{length-listOf, getD-listOf, listOf-ext}
+use Rattle.surface.proofs.Order.{StrictTotal, below-strict, reversed-strict}
+use Rattle.surface.proofs.RingEdges.{ring-member}
+use Rattle.surface.proofs.Lowest.{lowest-member}
+use Rattle.surface.proofs.Walks.{Vertex, Descent, next-stop, pit-stop, next-step, end-vertex, end-is-stop}
+use Rattle.plot.specs.Fits.{Fits}
+use Rattle.plot.specs.Scan.{toward}
+use Rattle.plot.proofs.Rows.{fits-sides, fits-small}
+use Rattle.parts.specs.Nexts.{nextBy}
+use Rattle.parts.specs.Paths.{follow, after, endIn, Ends}
+use Rattle.parts.proofs.Shorter.{outside, after-stays}
+
+module _ {n : ℕ} {lower : ℕ → ℕ → Bool} {ring : ℕ → List ℕ} {pick : ℕ → List ℕ → ℕ} (d : Descent n lower ring pick) where
+  pub next-vertex : (p : ℕ) → Vertex n p → Vertex n (next lower ring pick p)
+  next-vertex p v = either (isEnd lower ring pick p) (λ e. rw (next-stop d p e) v) (λ e. next-step d p v e .vertex)
+
+  -- the list of next posts
+  abbrev nexts : List ℕ
+  nexts = listOf (next lower ring pick) n
+
+  module _ (fits : n ≤ virtualPit) where
+    follow-next : (p : ℕ) → Vertex n p → follow nexts p ≡ next lower ring pick p
+    follow-next p (inl h) = getD-listOf (next lower ring pick) n p p h
+    follow-next p (inr h) =
+        outside nexts p (omega (arith, length-listOf (next lower ring pick) n)) ∙ sym (next-stop d p (ap (isEnd lower ring pick) h ∙ pit-stop d))
+
+    after-end : (m p : ℕ) → Vertex n p → after nexts m p ≡ end lower ring pick m p
+    unfolding after end
+    after-end zero p v = refl
+    after-end (suc m) p v = rw (follow-next p v) (after-end m (next lower ring pick p) (next-vertex p v))
+
+    end-is : (p : ℕ) → p < n → endIn nexts p ≡ end lower ring pick n p
+    end-is p h = rw (length-listOf (next lower ring pick) n) (after-end n p (inl h))
+
+    pub nexts-end : Ends nexts
+    nexts-end = record { stays = λ p. either (ltb p n) (λ e. post p (ltb-true p n e)) (λ e. beyond p (ltb-false p n e)) }
+      where
+        post : (p : ℕ) → p < n → follow nexts (endIn nexts p) ≡ endIn nexts p
+        post p h =
+            rw (end-is p h) (follow-next (end lower ring pick n p) (end-vertex d n p (inl h)) ∙ next-stop d _ (end-is-stop d p (inl h)))
+
+        beyond : (p : ℕ) → n ≤ p → follow nexts (endIn nexts p) ≡ endIn nexts p
+        beyond p h =
+            let o = outside nexts p (omega (arith, length-listOf (next lower ring pick) n)) in
+            rw (after-stays nexts (length nexts) p o) o
+
+    pub ends-are : listOf (endIn nexts) (length nexts) ≡ listOf (end lower ring pick n) n
+    ends-are = rw (length-listOf (next lower ring pick) n) (listOf-ext (after nexts n) (end lower ring pick n) n (λ p h. after-end n p (inl h)))
+
+module _ {rows columns : ℕ} {hs : List ℤ} (fits : Fits rows columns hs) where
+  pub few : rows * columns ≤ virtualPit
+  unfolding virtualPit
+  few = omega (arith, fits-small fits)
+
+  pub descent : (up : Bool) → Descent (rows * columns) (toward hs up) (ringOf rows columns hs) (lowestOf (toward hs up))
+  unfolding ringOf
+  descent up =
+      record {
+        order = order up;
+        ringVertex = ring-member (fits-sides fits) (throughLowest (below hs) columns) few;
+        picksMember = λ p q l m. lowest-member (toward hs up) q l m;
+      }
+    where
+      order : (up : Bool) → StrictTotal (toward hs up)
+      order true = reversed-strict (below-strict hs)
+      order false = below-strict hs
+
+  -- document 01's next down and next up are the descent's
+  pub next-is : (up : Bool) (p : ℕ) → nextBy up rows columns hs p ≡ next (toward hs up) (ringOf rows columns hs) (lowestOf (toward hs up)) p
+  unfolding nextDown nextUp
+  next-is true p = refl
+  next-is false p = refl
+
+  names-are : (up : Bool) → listOf (end (toward hs up) (ringOf rows columns hs) (lowestOf (toward hs up)) (rows * columns)) (rows * columns)
+      ≡ cond up (hillsOf rows columns hs) (dalesOf rows columns hs)
+  unfolding dalesOf daleAt hillsOf hillAt
+  names-are true = refl
+  names-are false = refl
+
+  -- they fit 16 bits
+  pub next-fits : (up : Bool) (p : ℕ) → p < rows * columns → nextBy up rows columns hs p < 65536
+  unfolding virtualPit
+  next-fits up p h =
+      rw (next-is up p)
+      (⊎-elim
+      (λ (k : next (toward hs up) (ringOf rows columns hs) (lowestOf (toward hs up)) p < rows * columns). omega (arith, fits-small fits))
+      (λ (k : next (toward hs up) (ringOf rows columns hs) (lowestOf (toward hs up)) p ≡ virtualPit). omega arith)
+      (next-vertex (descent up) p (inl h)))
+
+  -- a list filled with them: its paths come to an end, and the ends are the names of the dales, or of the hills
+  module _ (up : Bool) {l : List ℕ} (filled : l ≡ listOf (nextBy up rows columns hs) (rows * columns)) where
+    made : l ≡ nexts (descent up)
+    made = filled ∙ listOf-ext (nextBy up rows columns hs) _ (rows * columns) (λ p _. next-is up p)
+
+    pub filled-ends : Ends l
+    filled-ends = rw made (nexts-end (descent up) few)
+
+    pub filled-parts : listOf (endIn l) (length l) ≡ cond up (hillsOf rows columns hs) (dalesOf rows columns hs)
+    filled-parts = rw made (ends-are (descent up) few ∙ names-are up)

@@ -1,0 +1,76 @@
+-- `parts::paths::end_of` meets its contract. The loop's invariant: the path from e ends where that from p does. The measure: the steps left.
+use Prim.Native.Nat.{_<_}
+use native.Mathlib.Omega.{arith}
+use mathlib.Core.Path.{_≡_, sym, _∙_, ap}
+use mathlib.Core.List.{List}
+use lib.ListN.{length}
+use Rattle.parts.specs.Paths.{endIn, Ends}
+use Rattle.parts.proofs.Shorter.{stepsIn, outside, after-stays, entry, shorter-none, read-end, read-nearer}
+use Rattle.parts.proofs.paths.end_of.Statement.{statement}
+use Rattle.parts.proofs.paths.end_of.Tie as tie
+
+abbrev Inv-loop : tie.InvT-loop
+Inv-loop list p e₀ e = (e < 65536) × (endIn list e ≡ endIn list p)
+
+abbrev μ-loop : tie.MeasureT-loop
+μ-loop list p e₀ e = stepsIn list e
+
+mul-e : tie.Need-mul-e Inv-loop μ-loop
+mul-e c = omega arith
+
+shared-slice-read-e : tie.Need-shared-slice-read-e Inv-loop μ-loop
+shared-slice-read-e c = omega arith
+
+loop-holds : tie.Need-loop-holds Inv-loop μ-loop
+loop-holds c =
+    let a = c .before .args in
+    (omega (arith, c .shared-slice-known .given (a .p)), read-end (c .before .pre .0) (shorter-none _) (a .p) (c .before .pre .1))
+
+cast-i : tie.Need-cast-i Inv-loop μ-loop
+cast-i c = omega arith
+
+mul-next : tie.Need-mul-next Inv-loop μ-loop
+mul-next c = omega arith
+
+shared-slice-read-next : tie.Need-shared-slice-read-next Inv-loop μ-loop
+shared-slice-read-next c = omega arith
+
+loop-less : tie.Need-loop-less Inv-loop μ-loop
+loop-less c =
+    let l = c .before .before .before in
+    let s = l .before .before in
+    read-nearer (s .pre .0) (shorter-none _) (l .loop .e) (record { inside = c .before .before .if1 .left; moves = λ k. c .if2 .left (entry (s .args .list .now) _ 0 _ (c .before .before .if1 .left) ∙ k) })
+
+loop-again : tie.Need-loop-again Inv-loop μ-loop
+loop-again c =
+    let l = c .before .before .before in
+    (omega (arith, c .before .shared-slice-known2 .given (l .loop .e)), read-end (l .before .before .pre .0) (shorter-none _) (l .loop .e) (c .before .before .if1 .left) ∙ l .loop .inv .1)
+
+returns : tie.Need-returns Inv-loop μ-loop
+returns c =
+    let l = c .before in
+    let list = l .before .before .args .list .now in
+    sym (after-stays list (length list) (l .loop .e) (outside list (l .loop .e) (c .if1 .taken))) ∙ l .loop .inv .1
+
+returns-2 : tie.Need-returns-2 Inv-loop μ-loop
+returns-2 c =
+    let l = c .before .before .before in
+    let list = l .before .before .args .list .now in
+    sym (after-stays list (length list) (l .loop .e) (entry list _ _ 0 (c .before .before .if1 .left) ∙ c .if2 .taken)) ∙ l .loop .inv .1
+
+pub end-of-spec : {M : Type 1} → statement M
+end-of-spec =
+    tie.close
+    (tie.spec
+    Inv-loop
+    μ-loop
+    mul-e
+    shared-slice-read-e
+    loop-holds
+    cast-i
+    mul-next
+    shared-slice-read-next
+    loop-less
+    loop-again
+    returns
+    returns-2)
