@@ -1,0 +1,2 @@
+-- Laws on the text that this crate writes.
+mod Writing

@@ -1,0 +1,2 @@
+// Document 01, "The lister": the text that it prints, written into a lent list of bytes.
+pub mod text;
