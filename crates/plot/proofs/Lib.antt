@@ -6,5 +6,6 @@ pub mod Round
 pub mod Extreme
 pub mod Steps
 pub mod Sizes
+pub mod Rings
 pub mod Stores
 pub mod Rows

@@ -4,5 +4,6 @@ pub mod Limits
 pub mod Borders
 pub mod Signs
 pub mod Scan
+pub mod Rings
 pub mod Stores
 pub mod Rows

@@ -4,6 +4,7 @@ pub mod cell;
 pub mod limits;
 pub mod mark;
 pub mod next;
+pub mod ring;
 pub mod row;
 pub mod side;
 pub mod sign;

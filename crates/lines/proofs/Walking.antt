@@ -1,0 +1,191 @@
+-- Walks in either direction over a plot: document 01's descent is one, and so is its ascent, in the reversed order.
+use Prim.Native.Nat.{ℕ, zero, suc, _+_, _-_, _*_, _≤_, _<_}
+use native.Mathlib.Omega.{arith}
+use native.Mathlib.Numerals.{add-one}
+use mathlib.Core.Path.{_≡_, refl, sym, _∙_, ap, ap₂, subst}
+use mathlib.Core.Logic.{_⊎_, ⊎-elim, inl, inr}
+use mathlib.Core.Bool.{Bool, true, false, cond, not, true≢false}
+use mathlib.Core.List.{List, [], _∷_, _++_, List·Memᴰ}
+use lib.IntN.{ℤ}
+use lib.ListN.{length, drop, set}
+use Rattle.surface.specs.Lists.{listOf}
+use Rattle.surface.specs.Plot.{virtualPit, below, reversed}
+use Rattle.surface.specs.Edges.{throughLowest}
+use Rattle.surface.specs.Marks.{ringOf}
+use Rattle.surface.specs.Lines.{isEnd, next, walk, end, line, lowestOf}
+use Rattle.surface.proofs.Bools.{either}
+use Rattle.surface.proofs.Grid.{Sides}
+use Rattle.surface.proofs.Order.{StrictTotal, below-strict, reversed-strict, rank}
+use Rattle.surface.proofs.RingEdges.{ring-member, ring-other}
+use Rattle.surface.proofs.Lowest.{lowest-member}
+use Rattle.surface.proofs.Walks.{Vertex, Descent, next-step, next-stop, pit-stop, walk-next, end-next, end-stop}
+use Rattle.surface.proofs.ListOf.{Filled}
+use Rattle.plot.specs.Fits.{Fits}
+use Rattle.plot.specs.Scan.{toward}
+use Rattle.plot.proofs.Round.{few}
+use Rattle.lines.specs.Directed.{isEndOf, nextOf, after, walkOf, lineOf, entryOf}
+use Rattle.lines.specs.declared.walk.Walk.{Walk}
+use Rattle.lines.specs.declared.walk.Followed.{Followed}
+
+pub strict : (hs : List ℤ) (up : Bool) → StrictTotal (toward hs up)
+strict hs true = reversed-strict (below-strict hs)
+strict hs false = below-strict hs
+
+-- m steps, and one more
+end-more : (lower : ℕ → ℕ → Bool) (ring : ℕ → List ℕ) (pick : ℕ → List ℕ → ℕ) (m p : ℕ) → end lower ring pick (suc m) p ≡ next lower ring pick (end lower ring pick m p)
+unfolding end
+end-more lower ring pick zero p = refl
+end-more lower ring pick (suc m) p = end-more lower ring pick m (next lower ring pick p)
+
+-- a walk has at most one entry more than steps, and these are where its steps lead
+walk-low : (lower : ℕ → ℕ → Bool) (ring : ℕ → List ℕ) (pick : ℕ → List ℕ → ℕ) (m p : ℕ) → length (walk lower ring pick m p) ≤ m + 1
+unfolding walk
+walk-low lower ring pick zero p = omega arith
+walk-low lower ring pick (suc m) p = go (isEnd lower ring pick p) (walk-low lower ring pick m (next lower ring pick p))
+  where
+    go : (b : Bool) → length (walk lower ring pick m (next lower ring pick p)) ≤ m + 1 → length (p ∷ cond b [] (walk lower ring pick m (next lower ring pick p))) ≤ suc m + 1
+    go true h = omega arith
+    go false h = omega arith
+
+listOf-front : (f : ℕ → ℕ) (n : ℕ) → listOf f (suc n) ≡ f 0 ∷ listOf (λ i. f (suc i)) n
+unfolding listOf
+listOf-front f zero = refl
+listOf-front f (suc n) = rw (listOf-front f n)
+
+walk-list : (lower : ℕ → ℕ → Bool) (ring : ℕ → List ℕ) (pick : ℕ → List ℕ → ℕ) (m p : ℕ)
+    → walk lower ring pick m p ≡ listOf (λ i. end lower ring pick i p) (length (walk lower ring pick m p))
+unfolding walk end listOf
+walk-list lower ring pick zero p = refl
+walk-list lower ring pick (suc m) p = go (isEnd lower ring pick p) (walk-list lower ring pick m (next lower ring pick p))
+  where
+    w : List ℕ
+    w = walk lower ring pick m (next lower ring pick p)
+
+    go : (b : Bool) → w ≡ listOf (λ i. end lower ring pick i (next lower ring pick p)) (length w)
+        → p ∷ cond b [] w ≡ listOf (λ i. end lower ring pick i p) (length (p ∷ cond b [] w))
+    go true h = refl
+    go false h = ap (λ (l : List ℕ). p ∷ l) h ∙ sym (listOf-front (λ i. end lower ring pick i p) (length w))
+
+module _ {rows columns : ℕ} {hs : List ℤ} (fits : Fits rows columns hs) where
+  sides : Sides rows columns
+  sides = record { tall = omega arith; wide = omega arith }
+
+  pub fit : rows * columns ≤ virtualPit
+  unfolding virtualPit
+  fit = omega (arith, few fits)
+
+  pub vertex-low : (p : ℕ) → Vertex (rows * columns) p → p < 65536
+  unfolding virtualPit
+  vertex-low p v = ⊎-elim (λ (h : p < rows * columns). omega (arith, few fits)) (λ (h : p ≡ virtualPit). omega arith) v
+
+  pub vertex-post : (p : ℕ) → Vertex (rows * columns) p → (p ≡ 65535 → ⊥) → p < rows * columns
+  unfolding virtualPit
+  vertex-post p v h = ⊎-elim (λ (k : p < rows * columns). k) (λ (k : p ≡ virtualPit). absurd (h k)) v
+
+  pub vertices : (p q : ℕ) → p < rows * columns → List·Memᴰ q (ringOf rows columns hs p) → Vertex (rows * columns) q
+  unfolding ringOf
+  vertices p q = ring-member sides (throughLowest (below hs) columns) fit p q
+
+  pub others : (p q : ℕ) → p < rows * columns → List·Memᴰ q (ringOf rows columns hs p) → q ≡ p → ⊥
+  unfolding ringOf
+  others p q = ring-other sides (throughLowest (below hs) columns) fit p q
+
+  module _ (up : Bool) where
+    pub descent : Descent (rows * columns) (toward hs up) (ringOf rows columns hs) (lowestOf (toward hs up))
+    descent = record { order = strict hs up; ringVertex = vertices; picksMember = λ p q l m. lowest-member (toward hs up) q l m }
+
+    -- a walk stays exactly at an end
+    pub stays : (p : ℕ) → Vertex (rows * columns) p → nextOf rows columns hs up p ≡ p → isEndOf rows columns hs up p ≡ true
+    stays p v h =
+        either (isEndOf rows columns hs up p) (λ e. e)
+        (λ e.
+        absurd (true≢false (sym (next-step descent p v e .falls) ∙ ap (λ (q : ℕ). toward hs up q p) h ∙ strict hs up .irrefl p)))
+
+    pub moves : (p : ℕ) → (nextOf rows columns hs up p ≡ p → ⊥) → isEndOf rows columns hs up p ≡ false
+    moves p h = either (isEndOf rows columns hs up p) (λ e. absurd (h (next-stop descent p e))) (λ e. e)
+
+    pub next-pit : (p : ℕ) → p ≡ 65535 → nextOf rows columns hs up p ≡ p
+    unfolding virtualPit
+    next-pit p e = next-stop descent p (ap (isEndOf rows columns hs up) e ∙ pit-stop descent)
+
+    length-end : (p : ℕ) → Vertex (rows * columns) p → isEndOf rows columns hs up p ≡ true → length (walkOf rows columns hs up p) ≡ 1
+    length-end p v e = rw (walk-next descent p v, e)
+
+    length-more : (p : ℕ) → Vertex (rows * columns) p → isEndOf rows columns hs up p ≡ false
+        → length (walkOf rows columns hs up p) ≡ 1 + length (walkOf rows columns hs up (nextOf rows columns hs up p))
+    length-more p v e = rw (walk-next descent p v, e) (omega arith)
+
+    pub vertex-next : (p : ℕ) → Vertex (rows * columns) p → Vertex (rows * columns) (nextOf rows columns hs up p)
+    vertex-next p v =
+        either (isEndOf rows columns hs up p) (λ e. subst (Vertex (rows * columns)) (sym (next-stop descent p e)) v) (λ e. next-step descent p v e .vertex)
+
+    pub length-low : (p : ℕ) → length (walkOf rows columns hs up p) ≤ 14401
+    length-low p = omega (arith, walk-low (toward hs up) (ringOf rows columns hs) (lowestOf (toward hs up)) (rows * columns) p, few fits)
+
+-- a walk that has come from one post to another, and counted those it went by
+pub record Along (rows columns : ℕ) (hs : List ℤ) (from at : Walk) (entries : ℕ) : Type 0 where
+  pub vertex : Vertex (rows * columns) (at .post)
+  pub same : at .up ≡ from .up
+  pub ends : after rows columns hs (from .up) (rows * columns) (at .post) ≡ after rows columns hs (from .up) (rows * columns) (from .post)
+  pub counted : entries + length (walkOf rows columns hs (from .up) (at .post)) ≡ 1 + length (walkOf rows columns hs (from .up) (from .post))
+
+module _ {rows columns : ℕ} {hs : List ℤ} (fits : Fits rows columns hs) where
+  abbrev onward : Walk → Walk
+  onward at = record { post = nextOf rows columns hs (at .up) (at .post); up = at .up }
+
+  pub along-none : (from : Walk) → Vertex (rows * columns) (from .post) → Along rows columns hs from from 1
+  along-none from v = record { vertex = v; same = refl; ends = refl; counted = refl }
+
+  -- the step is no end of the walk as it set out
+  on : {from at : Walk} {entries : ℕ} → Along rows columns hs from at entries → (nextOf rows columns hs (at .up) (at .post) ≡ at .post → ⊥)
+      → isEndOf rows columns hs (from .up) (at .post) ≡ false
+  on {from} {at} a h = moves fits (from .up) (at .post) (rw (a .same) at h)
+
+  pub along-more : {from at : Walk} {entries : ℕ} → Along rows columns hs from at entries → (nextOf rows columns hs (at .up) (at .post) ≡ at .post → ⊥)
+      → Along rows columns hs from (onward at) (entries + 1)
+  along-more {from} {at} a h =
+      record {
+        vertex = vertex-next fits (at .up) (at .post) (a .vertex);
+        same = a .same;
+        ends = rw (a .same) (end-next (descent fits (from .up)) (at .post) (a .vertex) ∙ a .ends);
+        counted = rw (a .same) (omega (arith, a .counted, length-more fits (from .up) (at .post) (a .vertex) (on a h)));
+      }
+
+  pub along-sinks : {from at : Walk} {entries : ℕ} → Along rows columns hs from at entries → (nextOf rows columns hs (at .up) (at .post) ≡ at .post → ⊥)
+      → rank (toward hs (from .up)) (rows * columns) (nextOf rows columns hs (at .up) (at .post)) < rank (toward hs (from .up)) (rows * columns) (at .post)
+  along-sinks {from} {at} a h = rw (a .same) (next-step (descent fits (from .up)) (at .post) (a .vertex) (on a h) .sinks)
+
+  pub along-end : {from at : Walk} {entries : ℕ} → Along rows columns hs from at entries → nextOf rows columns hs (at .up) (at .post) ≡ at .post
+      → _≡_ {A = Followed} (record { end = at .post; entries = entries })
+      (record { end = after rows columns hs (from .up) (rows * columns) (from .post); entries = length (walkOf rows columns hs (from .up) (from .post)) })
+  along-end {from} {at} {entries} a h =
+      let e = stays fits (from .up) (at .post) (a .vertex) (rw (a .same) at h) in
+      let k : entries ≡ length (walkOf rows columns hs (from .up) (from .post)) = omega (arith, a .counted, length-end fits (from .up) (at .post) (a .vertex) e) in
+      let i : at .post ≡ after rows columns hs (from .up) (rows * columns) (from .post) = sym (end-stop (descent fits (from .up)) (rows * columns) (at .post) e) ∙ a .ends in
+      rw (← k, ← i)
+
+-- the entries of a line
+module _ (rows columns : ℕ) (hs : List ℤ) (up : Bool) (p q : ℕ) where
+  pub entry-after : (i : ℕ) → 1 ≤ i → entryOf rows columns hs up p q i ≡ after rows columns hs up (i - 1) q
+  unfolding entryOf
+  entry-after zero h = absurd (omega arith)
+  entry-after (suc i) h = ap (λ (m : ℕ). after rows columns hs up m q) (omega arith)
+
+  pub after-more : (i : ℕ) → 1 ≤ i → nextOf rows columns hs up (after rows columns hs up (i - 1) q) ≡ after rows columns hs up (i + 1 - 1) q
+  after-more i h =
+      sym (end-more (toward hs up) (ringOf rows columns hs) (lowestOf (toward hs up)) (i - 1) q) ∙ ap (λ (m : ℕ). after rows columns hs up m q) (omega arith)
+
+  pub line-entries : p ∷ walkOf rows columns hs up q ≡ listOf (entryOf rows columns hs up p q) (1 + length (walkOf rows columns hs up q))
+  unfolding entryOf
+  line-entries =
+      let w = walkOf rows columns hs up q in
+      let e : 1 + length w ≡ suc (length w) = omega arith in
+      rw e
+      (ap (λ (l : List ℕ). p ∷ l) (walk-list (toward hs up) (ringOf rows columns hs) (lowestOf (toward hs up)) (rows * columns) q)
+      ∙ sym (listOf-front (entryOf rows columns hs up p q) (length w)))
+
+-- the first entry stored
+pub filled-first : (f : ℕ → ℕ) (l : List ℕ) (x : ℕ) → 0 < length l → x ≡ f 0 → Filled f (set l 0 x) 1 (set l 0 x)
+unfolding listOf
+filled-first f [] x h e = absurd (omega arith)
+filled-first f (y ∷ l) x h e = rw e

@@ -1,0 +1,41 @@
+-- The ring once more after its last member.
+use Prim.Native.Nat.{_-_}
+use mathlib.Core.Path.{sym, _∙_}
+use native.Mathlib.Omega.{arith}
+use lib.Seq.{getD-take}
+use Rattle.plot.specs.Rings.{held}
+use Rattle.lines.proofs.Running.{held-long, getD-front, getD-back}
+use borrow.Author.Needs.{needs}
+use Rattle.lines.proofs.run.member_at.Statement.{statement}
+use Rattle.lines.proofs.run.member_at.Tie as tie
+
+mul-result : tie.Need-mul-result
+mul-result c = search needs
+
+array-read-result : tie.Need-array-read-result
+array-read-result c = search needs
+
+returns : tie.Need-returns
+returns c =
+    let s = c .before .before in
+    let r = s .args .ring in
+    let n = held-long r (s .pre .0) (s .pre .1) in
+    sym (getD-front (held r) (held r) (s .args .j) (omega arith) ∙ getD-take (r .len) (r .members) (s .args .j) 0 (c .if1 .taken))
+
+mul-result-2 : tie.Need-mul-result-2
+mul-result-2 c = search needs
+
+array-read-result-2 : tie.Need-array-read-result-2
+array-read-result-2 c = search needs
+
+returns-2 : tie.Need-returns-2
+returns-2 c =
+    let s = c .before .before in
+    let r = s .args .ring in
+    let n = held-long r (s .pre .0) (s .pre .1) in
+    sym (getD-back (held r) (held r) (s .args .j) (omega arith) ∙ rw n (getD-take (r .len) (r .members) (s .args .j - r .len) 0 (omega arith)))
+
+pub member-at-spec : {M : Type 1} → statement M
+member-at-spec =
+    tie.close
+    (tie.spec mul-result array-read-result returns mul-result-2 array-read-result-2 returns-2)

@@ -1,0 +1,103 @@
+// The line of a saddle and a run: walked once to count its entries and once to write them.
+use crate::table::placed;
+use crate::table::start_of;
+use crate::walk::Walk;
+use crate::walk::follow;
+use surface::Entries;
+ghost use mathlib.Core.Path.{_≡_};
+ghost use mathlib.Core.List.{_++_};
+ghost use Prim.Native.Nat.{_*_, _≤_, _<_};
+ghost use lib.ListN.{length, drop};
+ghost use Rattle.surface.specs.Lists.{listOf};
+ghost use Rattle.surface.specs.Calls.{lineAnswer, lineList};
+ghost use Rattle.surface.proofs.Walks.{Vertex};
+ghost use Rattle.plot.specs.Fits.{Fits};
+ghost use Rattle.lines.specs.Directed.{entryOf, lineOf, verdictOf};
+
+// Writes `count` entries: p, and then the posts of a walk.
+fn write_entries(
+    heights: &[i32],
+    rows: usize,
+    columns: usize,
+    p: usize,
+    from: Walk,
+    count: usize,
+    line: &mut [u16],
+)
+    requires { ⌜ Fits rows columns (now heights) × (p < rows * columns) × Vertex (rows * columns) (from .post) × (1 ≤ count) × (count ≤ length (now line)) ⌝ }
+    ensures { λ _. ⌜ now (line .exit) ≡ listOf (entryOf rows columns (now (heights .entry)) (from .up) p (from .post)) count ++ drop count (now (line .entry)) ⌝ }
+{
+    line[0] = p as u16;
+    let mut at = from;
+    let mut i = 1;
+    while i < count {
+        line[i] = at.post as u16;
+        at = at.next(heights, rows, columns);
+        i += 1;
+    }
+}
+
+// The line of a post and a run, downward, or upward where `up`.
+pub(crate) fn draw_line(
+    rows: u32,
+    columns: u32,
+    heights: &[i32],
+    post: u32,
+    run: u32,
+    up: bool,
+    line: &mut [u16],
+) -> Entries
+    ensures { λ r. ⌜ r ≡ lineAnswer (verdictOf rows columns (now (heights .entry)) up post run (now (line .entry))) (lineOf rows columns (now (heights .entry)) up post run) ⌝ }
+    ensures { λ _. ⌜ now (line .exit) ≡ lineList (verdictOf rows columns (now (heights .entry)) up post run (now (line .entry))) (lineOf rows columns (now (heights .entry)) up post run) (now (line .entry)) ⌝ }
+{
+    let refusal = placed(rows, columns, heights, post);
+    if refusal.code != 0 {
+        return Entries {
+            code: refusal.code,
+            place: refusal.place,
+            count: 0,
+        };
+    }
+    let start = start_of(
+        heights,
+        rows as usize,
+        columns as usize,
+        up,
+        post as usize,
+        run,
+    );
+    if start.code != 0 {
+        return Entries {
+            code: start.code,
+            place: 0,
+            count: 0,
+        };
+    }
+    let from = Walk {
+        post: start.post,
+        up,
+    };
+    let walked = follow(heights, rows as usize, columns as usize, from);
+    let count = 1 + walked.entries;
+    if line.len() < count {
+        return Entries {
+            code: 9,
+            place: 0,
+            count: 0,
+        };
+    }
+    write_entries(
+        heights,
+        rows as usize,
+        columns as usize,
+        post as usize,
+        from,
+        count,
+        line,
+    );
+    Entries {
+        code: 0,
+        place: 0,
+        count: count as u32,
+    }
+}
