@@ -1,2 +1,3 @@
 -- Laws on the text that this crate writes.
 mod Writing
+mod Saddles

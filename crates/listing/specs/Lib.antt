@@ -1,2 +1,3 @@
--- What a function that writes text into a lent list leaves there.
+-- What the functions that write text into a lent list ask, and what they leave there.
 pub mod Wrote
+pub mod Lines

@@ -1,2 +1,3 @@
 // Document 01, "The lister": the text that it prints, written into a lent list of bytes.
+pub mod posts;
 pub mod text;

@@ -32,3 +32,4 @@ pub mod Network
 pub mod Demand
 pub mod Starred
 pub mod StarListing
+pub mod Listing
