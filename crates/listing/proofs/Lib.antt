@@ -1,3 +1,4 @@
 -- Laws on the text that this crate writes.
 mod Writing
 mod Saddles
+mod Chunks

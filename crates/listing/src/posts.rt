@@ -3,8 +3,8 @@ use crate::text::put_line;
 use lines::run::lowest_from;
 use lines::run::run_at;
 use plot::mark::mark_at;
-use plot::ring::ring_at;
 use plot::ring::Ring;
+use plot::ring::ring_at;
 ghost use mathlib.Core.Path.{_≡_};
 ghost use mathlib.Core.Bool.{true, false};
 ghost use Prim.Native.Nat.{_+_, _*_, _≤_, _<_};
@@ -82,8 +82,30 @@ pub fn put_post(
         return at;
     }
     let ring = ring_at(heights, rows, columns, p);
-    let crest = put_runs(heights, rows, columns, false, b'T', p, ring, dales, buffer, at);
-    put_runs(heights, rows, columns, true, b'R', p, ring, hills, buffer, crest)
+    let crest = put_runs(
+        heights,
+        rows,
+        columns,
+        false,
+        b'T',
+        p,
+        ring,
+        dales,
+        buffer,
+        at,
+    );
+    put_runs(
+        heights,
+        rows,
+        columns,
+        true,
+        b'R',
+        p,
+        ring,
+        hills,
+        buffer,
+        crest,
+    )
 }
 
 // The lines of as many posts from `from` on as there is room for.

@@ -12,12 +12,6 @@ use Rattle.listing.proofs.Saddles.{rounded, few-runs, none, numbered, p
 use Rattle.listing.proofs.Writing.{within}
 use Rattle.listing.proofs.posts.put_runs.Statement.{statement}
 use Rattle.listing.proofs.posts.put_runs.Tie as tie
-use Rattle.listing.proofs.posts.put_runs.Reads as reads
-use Rattle.listing.proofs.posts.put_runs.Lts as lts
-use Rattle.lines.proofs.run.lowest_from.Reads as lowest-from-reads
-use Rattle.lines.proofs.run.run_at.Reads as run-at-reads
-use Rattle.listing.proofs.posts.end_from.Reads as end-from-reads
-use Rattle.listing.proofs.text.put_line.Reads as put-line-reads
 
 abbrev Inv-loop : tie.InvT-loop
 Inv-loop heights rows columns up letter p ring ends buffer₀ at len next₀ run₀ buffer next run =
@@ -88,8 +82,7 @@ loop-again c =
     let f = n .before in
     let e = f .before in
     let r = e .before in
-    let l = r .before in
-    (
+    let l = r .before in (
       l .loop .inv .0,
       omega (arith, numbered (asked l) (l .loop .run) (r .run-at .result) (r .run-at .ensures) (inside e)),
       line-more (asked l) (l .loop .run) (r .run-at .result) (r .run-at .ensures) (inside e) (f .lowest-from .result) (f .lowest-from .ensures) (A l .args .letter) (n .end-from .result) (n .end-from .ensures) (l .loop .inv .2) (w .put-line .ensures),
