@@ -3,17 +3,17 @@ use Prim.Native.Nat.{ℕ, zero, suc, _+_, _-_, _*_, _≤_, _<_}
 use native.Mathlib.Omega.{arith}
 use mathlib.Core.Path.{_≡_, refl, sym, _∙_, ap}
 use mathlib.Core.Bool.{Bool, true, false, cond, _&&_, true≢false}
-use mathlib.Core.List.{List, [], _∷_, _++_}
+use mathlib.Core.List.{List, [], _∷_, _++_, append-nil, append-assoc}
 use borrow.Author.Tests.{lt-ltb, le-ltb, ltb-true, ltb-false, le-leb}
 use lib.Dec.{ltb, leb}
 use lib.IntN.{ℤ}
-use lib.ListN.{length, take, drop}
-use lib.Seq.{sets, sets-eq, length-sets, take-at, drop-at}
+use lib.ListN.{length}
 use Rattle.surface.specs.Lists.{listOf}
 use Rattle.surface.specs.Marks.{ringOf, markAt}
 use Rattle.surface.specs.Lines.{thalweg, ridge, daleAt, hillAt, dalesOf, hillsOf}
 use Rattle.surface.specs.Lister.{joined, saddleLines, postLines}
 use Rattle.surface.proofs.Bools.{either}
+use Rattle.surface.proofs.ListOf.{listOf-ext}
 use Rattle.surface.proofs.Listing.{joined-more}
 use Rattle.plot.specs.Fits.{Fits}
 use Rattle.plot.specs.Rings.{Held}
@@ -21,7 +21,7 @@ use Rattle.plot.specs.declared.ring.Ring.{Ring}
 use Rattle.lines.specs.Directed.{runsOf}
 use Rattle.listing.specs.Wrote.{Wrote}
 use Rattle.listing.specs.Lines.{endsOf, runLines, linesFrom, Saddle, Parted, Listed}
-use Rattle.listing.proofs.Writing.{more, within, nothing}
+use Rattle.listing.proofs.Writing.{more, within, nothing, front}
 
 first-false : (a b : Bool) → a && b ≡ false → b ≡ true → a ≡ false
 first-false true b h e = absurd (true≢false (sym e ∙ h))
@@ -92,26 +92,9 @@ module _ (rows columns : ℕ) (hs : List ℤ) (p : ℕ) where
       → (ltb next (rows * columns) && leb bytes last) ≡ false
       → Listed rows columns hs p l l₁ (record { post = next; bytes = bytes })
   going-end {l} {l₁} {last} {next} {bytes} g e h stop =
-      record {
-        text = rw written (take-at text (drop bytes l) bytes size);
-        kept = rw written (drop-at text (drop bytes l) bytes size);
-        room = omega (arith, going-room g, g .size);
-        low = g .low;
-        further = further;
-        high = h;
-      }
+      let f = front l l₁ (linesFrom rows columns hs p next) bytes (omega arith) (g .wrote) in
+      record { text = f .0; kept = f .1; room = f .2; low = g .low; further = further; high = h }
     where
-      text : List ℕ
-      text = linesFrom rows columns hs p next
-
-      size : length text ≡ bytes
-      size = omega (arith, g .wrote .place)
-
-      written : l₁ ≡ text ++ drop bytes l
-      written =
-          let f : 0 + length text ≡ bytes = omega (arith, g .wrote .place) in
-          g .wrote .bytes ∙ sets-eq text l 0 (omega (arith, g .wrote .bound)) ∙ ap (λ (k : ℕ). text ++ drop k l) f
-
       further : p < rows * columns → p < next
       further k =
           either (ltb p next) (λ a. ltb-true p next a)
@@ -119,3 +102,19 @@ module _ (rows columns : ℕ) (hs : List ℤ) (p : ℕ) where
           let here : next ≡ p = omega (arith, ltb-false p next a, g .low) in
           let none : bytes ≤ last = omega (arith, g .first here) in
           absurd (omega (arith, ltb-false next (rows * columns) (first-false _ _ stop (le-leb bytes last none)))))
+
+-- pieces of the text, one after the other
+pub from-zero : (rows columns : ℕ) (hs : List ℤ) (n : ℕ) → linesFrom rows columns hs 0 n ≡ joined (listOf (postLines rows columns hs) n)
+unfolding linesFrom
+from-zero rows columns hs n =
+    let e : n - 0 ≡ n = omega arith in
+    rw e (ap joined (listOf-ext (λ i. postLines rows columns hs (0 + i)) (postLines rows columns hs) n (λ i _. let f : 0 + i ≡ i = omega arith in rw f)))
+
+-- all posts' lines are those up to a post and those from it on
+pub from-both : (rows columns : ℕ) (hs : List ℤ) (p q n : ℕ) → p ≤ q → linesFrom rows columns hs p q ++ linesFrom rows columns hs q (q + n) ≡ linesFrom rows columns hs p (q + n)
+from-both rows columns hs p q zero h = let e : q + 0 ≡ q = omega arith in rw (e, from-none rows columns hs q) (append-nil (linesFrom rows columns hs p q))
+from-both rows columns hs p q (suc n) h =
+    let e : q + suc n ≡ q + n + 1 = omega arith in
+    rw (e, from-more rows columns hs q (q + n) (omega arith), from-more rows columns hs p (q + n) (omega arith))
+    (sym (append-assoc (linesFrom rows columns hs p q) (linesFrom rows columns hs q (q + n)) (postLines rows columns hs (q + n)))
+    ∙ ap (λ (l : List ℕ). l ++ postLines rows columns hs (q + n)) (from-both rows columns hs p q n h))

@@ -2,3 +2,4 @@
 mod Writing
 mod Saddles
 mod Chunks
+mod Starting

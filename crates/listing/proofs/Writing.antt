@@ -7,8 +7,8 @@ use mathlib.Core.Bool.{cond}
 use mathlib.Core.List.{List, [], _∷_, _++_}
 use borrow.Author.Tests.{lt-ltb, le-ltb, eq-eqb, ne-eqb}
 use lib.Dec.{ltb}
-use lib.ListN.{length, set, length-append}
-use lib.Seq.{sets}
+use lib.ListN.{length, set, take, drop, length-append}
+use lib.Seq.{sets, sets-eq, length-sets, take-at, drop-at}
 use Rattle.surface.specs.Plot.{virtualPit}
 use Rattle.surface.specs.Lister.{digits, decimal, endName}
 use Rattle.listing.specs.Wrote.{Wrote}
@@ -66,3 +66,13 @@ pit-named v e = rw (eq-eqb v 65535 e)
 pub post-named : (v : ℕ) → (v ≡ 65535 → ⊥) → endName v ≡ decimal v
 unfolding endName virtualPit
 post-named v h = rw (ne-eqb v 65535 h)
+
+-- text at the front of a list
+pub front : {m : ℕ} (l l₁ : List ℕ) (text : List ℕ) (next : ℕ) → m ≤ length l → Wrote m l l₁ 0 text next
+    → (take next l₁ ≡ text) × (drop next l₁ ≡ drop next l) × (next ≤ length l₁)
+front {m} l l₁ text next h w =
+    let e : 0 + length text ≡ next = omega (arith, w .place) in
+    let size : length text ≡ next = omega (arith, w .place) in
+    let same : length l₁ ≡ length l = ap length (w .bytes) ∙ length-sets l 0 text in
+    let is : l₁ ≡ text ++ drop next l = w .bytes ∙ sets-eq text l 0 (omega (arith, w .bound)) ∙ ap (λ (k : ℕ). text ++ drop k l) e in
+    (rw is (take-at text (drop next l) next size), rw is (drop-at text (drop next l) next size), omega (arith, w .bound))
