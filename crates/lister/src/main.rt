@@ -6,6 +6,7 @@ use listing::first::put_first;
 use listing::posts::put_posts;
 ghost use Prim.Native.Nat.{_≤_};
 ghost use lib.ListN.{length};
+ghost use Rattle.listing.specs.First.{Room};
 ghost use Rattle.listing.specs.Lines.{Parted};
 
 // Prints the lines of all posts, a full buffer at a time.
@@ -29,15 +30,35 @@ fn print_posts(
     }
 }
 
-// Prints the listing of a file.
-fn print_listing(file: &[u8]) {
+// Prints the listing of a file, with lists lent for its plot.
+fn print_listing(
+    file: &[u8],
+    heights: &mut [i32],
+    marks: &mut [u8],
+    dales: &mut [u16],
+    hills: &mut [u16],
+    buffer: &mut [u8],
+)
+    requires { ⌜ Room (now file) (now heights) (now marks) (now dales) (now hills) × (960 ≤ length (now buffer)) ⌝ }
+{
+    let begun = put_first(file, heights, marks, dales, hills, buffer);
+    let bytes = begun.bytes;
+    let rows = begun.rows;
+    io::write_all(STDOUT_FILENO, &buffer[..bytes]);
+    if rows != 0 {
+        print_posts(heights, rows, begun.columns, dales, hills, buffer);
+    }
+}
+
+// Prints the listing of a file. Its plot may be as large as any.
+fn print_file(file: &[u8]) {
     let mut heights = [0i32; 14400];
     let mut marks = [0u8; 14400];
     let mut dales = [0u16; 14400];
     let mut hills = [0u16; 14400];
     let mut buffer = [0u8; 65536];
     let posts = posts_in(file);
-    let begun = put_first(
+    print_listing(
         file,
         &mut heights[..posts],
         &mut marks[..posts],
@@ -45,23 +66,10 @@ fn print_listing(file: &[u8]) {
         &mut hills[..posts],
         &mut buffer,
     );
-    let bytes = begun.bytes;
-    let rows = begun.rows;
-    io::write_all(STDOUT_FILENO, &buffer[..bytes]);
-    if rows != 0 {
-        print_posts(
-            &heights[..posts],
-            rows,
-            begun.columns,
-            &dales[..posts],
-            &hills[..posts],
-            &mut buffer,
-        );
-    }
 }
 
 fn main() {
     let mut file = [0u8; 57608];
     let bytes = io::read_full(STDIN_FILENO, &mut file);
-    print_listing(&file[..bytes]);
+    print_file(&file[..bytes]);
 }
