@@ -1,7 +1,7 @@
 // Document 01, "Lines, dales and hills": a walk a post at a time, and the lines of a saddle.
 mod line;
 mod order;
-mod run;
+pub mod run;
 mod table;
 pub mod walk;
 

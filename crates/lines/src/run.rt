@@ -27,7 +27,7 @@ fn member_at(ring: Ring, j: usize) -> usize
 }
 
 // The ring place of the first member of run number `run` of p, the length of the ring where there is no such run.
-pub(crate) fn run_at(heights: &[i32], up: bool, p: usize, ring: Ring, run: u32) -> usize
+pub fn run_at(heights: &[i32], up: bool, p: usize, ring: Ring, run: u32) -> usize
     requires { ⌜ Round (now heights) up p ring ⌝ }
     ensures { λ r. ⌜ StartsAt (λ q. toward (now (heights .entry)) up q p) (held ring) run r ⌝ }
 {
@@ -49,7 +49,7 @@ pub(crate) fn run_at(heights: &[i32], up: bool, p: usize, ring: Ring, run: u32) 
 }
 
 // The lowest member of the run of p that starts at place i, the highest where `up`.
-pub(crate) fn lowest_from(heights: &[i32], up: bool, p: usize, ring: Ring, i: usize) -> usize
+pub fn lowest_from(heights: &[i32], up: bool, p: usize, ring: Ring, i: usize) -> usize
     requires { ⌜ Round (now heights) up p ring × (i < ring .len) × (toward (now heights) up (getD (held ring) i 0) p ≡ true) ⌝ }
     ensures { λ r. ⌜ r ≡ lowest (toward (now (heights .entry)) up) (takeWhile (λ q. toward (now (heights .entry)) up q p) (drop i (held ring ++ held ring))) ⌝ }
 {

@@ -35,3 +35,4 @@ pub mod Network
 pub mod Demand
 pub mod Starred
 pub mod StarListing
+pub mod Listing

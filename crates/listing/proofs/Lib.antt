@@ -1,0 +1,5 @@
+-- Laws on the text that this crate writes.
+mod Writing
+mod Saddles
+mod Chunks
+mod Starting

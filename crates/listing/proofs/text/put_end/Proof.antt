@@ -1,0 +1,42 @@
+-- `listing::text::put_end` meets its contract, by whether the end is the virtual pit.
+use native.Mathlib.Omega.{arith}
+use Rattle.listing.proofs.Writing.{more, within, pit-named, post-named}
+use borrow.Author.Needs.{needs}
+use Rattle.listing.proofs.text.put_end.Statement.{statement}
+use Rattle.listing.proofs.text.put_end.Tie as tie
+
+put-byte-requires : tie.Need-put-byte-requires
+put-byte-requires c κs = search needs
+
+put-byte-requires-2 : tie.Need-put-byte-requires-2
+put-byte-requires-2 c κs = search needs
+
+same-length : tie.Need-same-length
+same-length c = search needs
+
+returns : tie.Need-returns
+returns c =
+    let d = c .before .before in
+    let b = d .before .before .before .before in
+    rw (pit-named _ (b .before .before .if1 .taken)) (within (omega arith) (more (b .put-byte .ensures) (d .put-byte2 .ensures)))
+
+put-field-requires : tie.Need-put-field-requires
+put-field-requires c κs = search needs
+
+same-length-2 : tie.Need-same-length-2
+same-length-2 c = search needs
+
+returns-2 : tie.Need-returns-2
+returns-2 c = let d = c .before .before in rw (post-named _ (d .before .before .if1 .left)) (d .put-field .ensures)
+
+pub put-end-spec : {M : Type 1} → statement M
+put-end-spec =
+    tie.close
+    (tie.spec
+    put-byte-requires
+    put-byte-requires-2
+    same-length
+    returns
+    put-field-requires
+    same-length-2
+    returns-2)
