@@ -298,5 +298,11 @@ module _ {rows columns : ℕ} {hs : List ℤ} {p : ℕ} {nw ne sw se : Bool} (i 
   pub corners-are : cornersOf rows columns (throughLowest (below hs) columns) p ≡ cornersBy nw ne sw se
   corners-are = rw (off-top, off-last, off-bottom, off-first, i .nwFalls, i .neFalls, i .swFalls, i .seFalls)
 
+  -- the posts round it are there
+  pub inner : (columns + 1 ≤ p) × (p + columns + 1 < length hs)
+  inner =
+      let r = room (i .fits) p (i .post) (λ _. true) in
+      (r .northWest (rw (off-first, off-top)), r .southEast (rw (off-last, off-bottom)))
+
   pub mark-by-falls : markAt rows columns hs p ≡ markOfSigns (asSigns (signsOf (λ q. below hs q p) columns p inside (cornersBy nw ne sw se)))
   mark-by-falls = mark-by-corners (i .fits) p (i .post) ∙ rw (borders-are, corners-are)

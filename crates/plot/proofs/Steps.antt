@@ -1,7 +1,7 @@
 -- One step of a scan, by one comparison of heights.
 use Prim.Native.Nat.{ℕ, _+_, _-_, _<_, _≤_}
 use mathlib.Core.Path.{_≡_, refl, ap, _∙_}
-use mathlib.Core.Bool.{Bool, true, false, cond, not, _&&_, true≢false}
+use mathlib.Core.Bool.{Bool, true, false, cond, not, _&&_, _||_, true≢false}
 use mathlib.Core.List.{List, [], _∷_}
 use native.Mathlib.Omega.{arith}
 use lib.IntN.{ℤ}
@@ -11,14 +11,16 @@ use Rattle.surface.specs.Edges.{Place}
 use Rattle.plot.specs.Scan.{toward, step, scan, Held, Back, Ahead}
 use Rattle.plot.proofs.Order.{below-high, below-low}
 
--- a post that is not there is taken for p itself
-pub back-post : (there : Bool) (p d : ℕ) → (there ≡ true → d ≤ p) → cond there d 0 ≤ p
-back-post true p d h = h refl
-back-post false p d h = omega arith
+-- a post that is neither there nor to be read is taken for p itself
+pub back-post : (there inner : Bool) (p d : ℕ) → (there ≡ true → d ≤ p) → (inner ≡ true → d ≤ p) → cond (there || inner) d 0 ≤ p
+back-post true inner p d h i = h refl
+back-post false true p d h i = i refl
+back-post false false p d h i = omega arith
 
-pub ahead-post : (there : Bool) (n p d : ℕ) → p < n → (there ≡ true → p + d < n) → p + cond there d 0 < n
-ahead-post true n p d k h = h refl
-ahead-post false n p d k h = omega arith
+pub ahead-post : (there inner : Bool) (n p d : ℕ) → p < n → (there ≡ true → p + d < n) → (inner ≡ true → p + d < n) → p + cond (there || inner) d 0 < n
+ahead-post true inner n p d k h i = h refl
+ahead-post false true n p d k h i = i refl
+ahead-post false false n p d k h i = omega arith
 
 between : (b : Bool) (q x : ℕ) → q ≤ x → (q ≤ cond b q x) × (cond b q x ≤ x)
 between true q x h = omega arith
@@ -45,9 +47,9 @@ toward-ahead hs true x q h k = below-low hs x q h k
 toward-ahead hs false x q h k = below-high hs x q h k
 
 module _ (hs : List ℤ) (up : Bool) (x p d : ℕ) where
-  pub back-step : (there : Bool) → x < virtualPit → p - d ≤ x → (there ≡ true → (d ≤ p) × (p - d < x))
-      → let q = p - cond there d 0 in Back (toward hs up) x p d there (cond (there && takesBack hs up x q) q x)
-  back-step true k low h =
+  pub back-step : (there inner : Bool) → x < virtualPit → p - d ≤ x → (there ≡ true → (d ≤ p) × (p - d < x))
+      → let q = p - cond (there || inner) d 0 in Back (toward hs up) x p d there (cond (there && takesBack hs up x q) q x)
+  back-step true inner k low h =
       let b = between (takesBack hs up x (p - d)) (p - d) x low in
       record {
         value = rw (toward-back hs up x (p - d) (h refl .1) k);
@@ -55,12 +57,12 @@ module _ (hs : List ℤ) (up : Bool) (x p d : ℕ) where
         high = b .1;
         kept = λ e. absurd (true≢false e);
       }
-  back-step false k low h = record { value = refl; low = low; high = omega arith; kept = λ _. refl }
+  back-step false inner k low h = record { value = refl; low = low; high = omega arith; kept = λ _. refl }
 
-  pub ahead-step : (n : ℕ) (there : Bool) → n ≤ 14400 → x < n → x ≤ p + d → (there ≡ true → (p + d < n) × (x < p + d))
-      → let q = p + cond there d 0 in Ahead (toward hs up) n x p d there (cond (there && takesAhead hs up x q) q x)
+  pub ahead-step : (n : ℕ) (there inner : Bool) → n ≤ 14400 → x < n → x ≤ p + d → (there ≡ true → (p + d < n) × (x < p + d))
+      → let q = p + cond (there || inner) d 0 in Ahead (toward hs up) n x p d there (cond (there && takesAhead hs up x q) q x)
   unfolding virtualPit
-  ahead-step n true k i high h =
+  ahead-step n true inner k i high h =
       let b = between-up (takesAhead hs up x (p + d)) (p + d) x high in
       record {
         value = rw (toward-ahead hs up x (p + d) (h refl .1) (omega (arith, h refl .0)));
@@ -69,7 +71,7 @@ module _ (hs : List ℤ) (up : Bool) (x p d : ℕ) where
         post = omega (arith, b .1, h refl .0);
         kept = λ e. absurd (true≢false e);
       }
-  ahead-step n false k i high h = record { value = refl; low = omega arith; high = high; post = i; kept = λ _. refl }
+  ahead-step n false inner k i high h = record { value = refl; low = omega arith; high = high; post = i; kept = λ _. refl }
 
 -- the height held beside a post is kept by a choice
 pub held-or : (hs : List ℤ) (b : Bool) (q x : ℕ) (y z : ℤ) → Held hs q y → Held hs x z → Held hs (cond b q x) (cond b y z)

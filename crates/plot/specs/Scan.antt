@@ -43,19 +43,21 @@ abbrev pub Held : List ℤ → ℕ → ℤ → Type 0
 Held hs x z = z ≡ height hs x
 
 -- what a step from x to the place d numbers before p, or after it, asks: in a plot of n posts x is numbered after what is there, or before it
-pub record BackAsks (n x p d : ℕ) (there : Bool) : Type 0 where
+pub record BackAsks (n x p d : ℕ) (there inner : Bool) : Type 0 where
   pub post : p < n
   pub found : x < n
   pub small : n ≤ 14400
   pub near : p - d ≤ x
   pub taken : there ≡ true → (d ≤ p) × (p - d < x)
+  pub read : inner ≡ true → d ≤ p
 
-pub record AheadAsks (n x p d : ℕ) (there : Bool) : Type 0 where
+pub record AheadAsks (n x p d : ℕ) (there inner : Bool) : Type 0 where
   pub post : p < n
   pub found : x < n
   pub small : n ≤ 14400
   pub near : x ≤ p + d
   pub taken : there ≡ true → (p + d < n) × (x < p + d)
+  pub read : inner ≡ true → p + d < n
 
 -- and what it gives: the value, and where its number lies
 pub record Back (lower : ℕ → ℕ → Bool) (x p d : ℕ) (there : Bool) (r : ℕ) : Type 0 where
@@ -75,3 +77,7 @@ pub record Ahead (lower : ℕ → ℕ → Bool) (n x p d : ℕ) (there : Bool) (
 pub record Wide (columns : ℕ) (at : Borders) (with : Corners) : Type 0 where
   pub ne : with .ne ≡ true → at .first ≡ false → 3 ≤ columns
   pub sw : with .sw ≡ true → at .last ≡ false → 3 ≤ columns
+
+-- the posts round an inner post are there, joined to it or not
+abbrev pub Inner : ℕ → ℕ → ℕ → Bool → Type 0
+Inner n columns p inner = inner ≡ true → (columns + 1 ≤ p) × (p + columns + 1 < n)

@@ -14,7 +14,7 @@ ghost use Rattle.surface.specs.Plot.{height};
 ghost use Rattle.surface.specs.Lines.{nextDown, nextUp};
 ghost use Rattle.plot.specs.Fits.{Fits};
 ghost use Rattle.plot.specs.Signs.{Room, Inside};
-ghost use Rattle.plot.specs.Scan.{toward, scan, turn, Held, BackAsks, Back, AheadAsks, Ahead, Wide};
+ghost use Rattle.plot.specs.Scan.{toward, scan, turn, Held, BackAsks, Back, AheadAsks, Ahead, Wide, Inner};
 
 // x where b holds, else y.
 pub fn choose(b: bool, x: usize, y: usize) -> usize
@@ -54,12 +54,21 @@ pub fn found_or(b: bool, y: Found, x: Found) -> Found
     if b { y } else { x }
 }
 
-// The lower of x and the post d numbers before p, the higher where `up`; x where that post is not there. It is numbered before x.
-pub fn step_back(heights: &[i32], up: bool, x: Found, p: usize, d: usize, there: bool) -> Found
-    requires { ⌜ BackAsks (length (now heights)) (x .post) p d there × Held (now heights) (x .post) (x .height) ⌝ }
+// The lower of x and the post d numbers before p, the higher where `up`; x where that post is not there. It is numbered before x. Where p is an inner
+// post its height is read all the same, since a choice of what to read would be a branch.
+pub fn step_back(
+    heights: &[i32],
+    up: bool,
+    x: Found,
+    p: usize,
+    d: usize,
+    there: bool,
+    inner: bool,
+) -> Found
+    requires { ⌜ BackAsks (length (now heights)) (x .post) p d there inner × Held (now heights) (x .post) (x .height) ⌝ }
     ensures { λ r. ⌜ Back (toward (now (heights .entry)) up) (x .post) p d there (r .post) × Held (now (heights .entry)) (r .post) (r .height) ⌝ }
 {
-    let q = p - choose(there, d, 0);
+    let q = p - choose(there | inner, d, 0);
     let y = found_at(heights, q);
     let less = is_less(x.height, y.height);
     let take = side::pick(up, less, !less);
@@ -67,18 +76,27 @@ pub fn step_back(heights: &[i32], up: bool, x: Found, p: usize, d: usize, there:
 }
 
 // The same of the post d numbers after p, which is numbered after x.
-pub fn step_ahead(heights: &[i32], up: bool, x: Found, p: usize, d: usize, there: bool) -> Found
-    requires { ⌜ AheadAsks (length (now heights)) (x .post) p d there × Held (now heights) (x .post) (x .height) ⌝ }
+pub fn step_ahead(
+    heights: &[i32],
+    up: bool,
+    x: Found,
+    p: usize,
+    d: usize,
+    there: bool,
+    inner: bool,
+) -> Found
+    requires { ⌜ AheadAsks (length (now heights)) (x .post) p d there inner × Held (now heights) (x .post) (x .height) ⌝ }
     ensures { λ r. ⌜ Ahead (toward (now (heights .entry)) up) (length (now (heights .entry))) (x .post) p d there (r .post) × Held (now (heights .entry)) (r .post) (r .height) ⌝ }
 {
-    let q = p + choose(there, d, 0);
+    let q = p + choose(there | inner, d, 0);
     let y = found_at(heights, q);
     let less = is_less(y.height, x.height);
     let take = side::pick(up, !less, less);
     found_or(there & take, y, x)
 }
 
-// The lowest of p and its neighbours, the highest where `up`; p stands at these borders and is joined to these corners.
+// The lowest of p and its neighbours, the highest where `up`; p stands at these borders and is joined to these corners. Only a post on no border is
+// called an inner one.
 pub fn lowest_round(
     heights: &[i32],
     up: bool,
@@ -86,19 +104,20 @@ pub fn lowest_round(
     p: usize,
     at: Borders,
     with: Corners,
+    inner: bool,
 ) -> usize
-    requires { ⌜ Room (length (now heights)) columns p at with × Wide columns at with ⌝ }
+    requires { ⌜ Room (length (now heights)) columns p at with × Wide columns at with × Inner (length (now heights)) columns p inner ⌝ }
     ensures { λ r. ⌜ r ≡ scan (toward (now (heights .entry)) up) p (turn columns p at with) ⌝ }
 {
     let x = found_at(heights, p);
-    let w = step_back(heights, up, x, p, 1, !at.first);
-    let ne = step_back(heights, up, w, p, columns - 1, with.ne);
-    let n = step_back(heights, up, ne, p, columns, !at.top);
-    let e = step_ahead(heights, up, n, p, 1, !at.last);
-    let sw = step_ahead(heights, up, e, p, columns - 1, with.sw);
-    let s = step_ahead(heights, up, sw, p, columns, !at.bottom);
-    let se = step_ahead(heights, up, s, p, columns + 1, with.se);
-    let nw = step_back(heights, up, se, p, columns + 1, with.nw);
+    let w = step_back(heights, up, x, p, 1, !at.first, inner);
+    let ne = step_back(heights, up, w, p, columns - 1, with.ne, inner);
+    let n = step_back(heights, up, ne, p, columns, !at.top, inner);
+    let e = step_ahead(heights, up, n, p, 1, !at.last, inner);
+    let sw = step_ahead(heights, up, e, p, columns - 1, with.sw, inner);
+    let s = step_ahead(heights, up, sw, p, columns, !at.bottom, inner);
+    let se = step_ahead(heights, up, s, p, columns + 1, with.se, inner);
+    let nw = step_back(heights, up, se, p, columns + 1, with.nw, inner);
     nw.post
 }
 
@@ -109,7 +128,7 @@ pub fn next_up_at(heights: &[i32], rows: usize, columns: usize, p: usize) -> usi
 {
     let at = border::borders_of(rows, columns, p);
     let with = sign::corners_of(heights, rows, columns, p, at);
-    lowest_round(heights, true, columns, p, at, with)
+    lowest_round(heights, true, columns, p, at, with, false)
 }
 
 // Next down from any post; from one on a border it is the virtual pit.
@@ -122,7 +141,7 @@ pub fn next_down_at(heights: &[i32], rows: usize, columns: usize, p: usize) -> u
         return 65535;
     }
     let with = sign::corners_of(heights, rows, columns, p, at);
-    lowest_round(heights, false, columns, p, at, with)
+    lowest_round(heights, false, columns, p, at, with, false)
 }
 
 // Next down, or next up, from a post on no border, where it is known which diagonals round it fall.
@@ -152,5 +171,5 @@ pub fn next_inside(
         sw: !sw,
         nw,
     };
-    lowest_round(heights, up, columns, p, at, with)
+    lowest_round(heights, up, columns, p, at, with, true)
 }

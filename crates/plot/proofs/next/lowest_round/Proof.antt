@@ -24,7 +24,7 @@ found-at-requires c κs = search needs
 step-back-requires : tie.Need-step-back-requires
 step-back-requires c κs =
     let start = c .before .before in
-    (record { post = omega arith; found = omega arith; small = omega arith; near = omega arith; taken = λ h. omega (arith, start .pre .0 .west h) }, c .before .found-at .ensures .1 ∙ ap (height (start .args .heights .now)) (sym (c .before .found-at .ensures .0)))
+    (record { post = omega arith; found = omega arith; small = omega arith; near = omega arith; taken = λ h. omega (arith, start .pre .0 .west h); read = λ h. omega (arith, start .pre .2 h) }, c .before .found-at .ensures .1 ∙ ap (height (start .args .heights .now)) (sym (c .before .found-at .ensures .0)))
 
 sub-step-back : tie.Need-sub-step-back
 sub-step-back c = search needs
@@ -42,6 +42,7 @@ step-back-requires-2 c κs =
             = wide-back (start .args .at .first) _ _ _ (λ e. c .step-back .ensures .0 .kept e ∙ c .before .before .found-at .ensures .0) (start .pre .1 .ne h) (omega arith) (start .pre .0 .northEast h) (omega arith)
             in
             omega (arith, start .pre .0 .northEast h);
+        read = λ h. omega (arith, start .pre .2 h);
       },
       c .step-back .ensures .1,
     )
@@ -49,15 +50,15 @@ step-back-requires-2 c κs =
 step-back-requires-3 : tie.Need-step-back-requires-3
 step-back-requires-3 c κs =
     let start = c .before .before .before .before .before in
-    (record { post = omega arith; found = omega arith; small = omega arith; near = omega arith; taken = λ h. omega (arith, start .pre .0 .north h) }, c .before .step-back2 .ensures .1)
+    (record { post = omega arith; found = omega arith; small = omega arith; near = omega arith; taken = λ h. omega (arith, start .pre .0 .north h); read = λ h. omega (arith, start .pre .2 h) }, c .before .step-back2 .ensures .1)
 
 step-ahead-requires : tie.Need-step-ahead-requires
 step-ahead-requires c κs =
     let start = c .before .before .before .before .before .before .before in
-    (record { post = omega arith; found = omega arith; small = omega arith; near = omega arith; taken = λ h. omega (arith, start .pre .0 .east h) }, c .before .step-back3 .ensures .1)
+    (record { post = omega arith; found = omega arith; small = omega arith; near = omega arith; taken = λ h. omega (arith, start .pre .0 .east h); read = λ h. omega (arith, start .pre .2 h) }, c .before .step-back3 .ensures .1)
 
 sub-step-ahead : tie.Need-sub-step-ahead
-sub-step-ahead c = search needs
+sub-step-ahead c = omega (arith, c .before .before .before .before .before .before .before .before .pre .0 .wide)
 
 step-ahead-requires-2 : tie.Need-step-ahead-requires-2
 step-ahead-requires-2 c κs =
@@ -72,6 +73,7 @@ step-ahead-requires-2 c κs =
             = wide-ahead (start .args .at .last) _ (c .before .before .step-back3 .result .post) _ _ (c .step-ahead .ensures .0 .kept) (start .pre .1 .sw h) (omega arith) (back-high (c .before .before)) (omega (arith, back-high (c .before .before)))
             in
             omega (arith, start .pre .0 .southWest h);
+        read = λ h. omega (arith, start .pre .2 h);
       },
       c .step-ahead .ensures .1,
     )
@@ -79,7 +81,7 @@ step-ahead-requires-2 c κs =
 step-ahead-requires-3 : tie.Need-step-ahead-requires-3
 step-ahead-requires-3 c κs =
     let start = c .before .before .before .before .before .before .before .before .before .before in
-    (record { post = omega arith; found = omega arith; small = omega arith; near = omega arith; taken = λ h. omega (arith, start .pre .0 .south h) }, c .before .step-ahead2 .ensures .1)
+    (record { post = omega arith; found = omega arith; small = omega arith; near = omega arith; taken = λ h. omega (arith, start .pre .0 .south h); read = λ h. omega (arith, start .pre .2 h) }, c .before .step-ahead2 .ensures .1)
 
 add-step-ahead : tie.Need-add-step-ahead
 add-step-ahead c = omega (arith, c .before .before .before .before .before .before .before .before .before .before .before .pre .0 .narrow)
@@ -87,7 +89,7 @@ add-step-ahead c = omega (arith, c .before .before .before .before .before .befo
 step-ahead-requires-4 : tie.Need-step-ahead-requires-4
 step-ahead-requires-4 c κs =
     let start = c .before .before .before .before .before .before .before .before .before .before .before in
-    (record { post = omega arith; found = omega arith; small = omega arith; near = omega arith; taken = λ h. omega (arith, start .pre .0 .southEast h) }, c .step-ahead3 .ensures .1)
+    (record { post = omega arith; found = omega arith; small = omega arith; near = omega arith; taken = λ h. omega (arith, start .pre .0 .southEast h); read = λ h. omega (arith, start .pre .2 h) }, c .step-ahead3 .ensures .1)
 
 add-step-back : tie.Need-add-step-back
 add-step-back c = omega (arith, c .before .before .before .before .before .before .before .before .before .before .before .before .pre .0 .narrow)
@@ -95,7 +97,7 @@ add-step-back c = omega (arith, c .before .before .before .before .before .befor
 step-back-requires-4 : tie.Need-step-back-requires-4
 step-back-requires-4 c κs =
     let start = c .before .before .before .before .before .before .before .before .before .before .before .before in
-    (record { post = omega arith; found = omega arith; small = omega arith; near = omega (arith, ahead-low c); taken = λ h. omega (arith, ahead-low c, start .pre .0 .northWest h) }, c .step-ahead4 .ensures .1)
+    (record { post = omega arith; found = omega arith; small = omega arith; near = omega (arith, ahead-low c); taken = λ h. omega (arith, ahead-low c, start .pre .0 .northWest h); read = λ h. omega (arith, start .pre .2 h) }, c .step-ahead4 .ensures .1)
 
 returns : tie.Need-returns
 returns c =

@@ -1,5 +1,6 @@
 -- On a border the virtual pit is found; elsewhere next down is what the scan finds.
 use mathlib.Core.Path.{sym}
+use mathlib.Core.Bool.{true≢false}
 use native.Mathlib.Omega.{arith}
 use Rattle.surface.specs.Plot.{virtualPit, below}
 use Rattle.surface.specs.Edges.{throughLowest}
@@ -26,7 +27,7 @@ lowest-round-requires c κs =
     let start = c .before .before .before .before .before .before in
     let falls = throughLowest (below (start .args .heights .now)) (start .args .columns) in
     rw (c .corners-of .ensures, c .before .before .before .before .before .borders-of .ensures)
-    (room (start .pre .0) (start .args .p) (start .pre .1) falls, wide (start .pre .0) (start .args .p) (start .pre .1) falls)
+    (room (start .pre .0) (start .args .p) (start .pre .1) falls, wide (start .pre .0) (start .args .p) (start .pre .1) falls, λ e. absurd (true≢false (sym e)))
 
 returns-2 : tie.Need-returns-2
 returns-2 c =

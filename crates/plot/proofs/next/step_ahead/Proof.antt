@@ -17,7 +17,7 @@ inside : (c : tie.After-choose) → c .before .args .p + c .choose .result < len
 inside c =
     let start = c .before in
     let a = start .args in
-    rw (c .choose .ensures) (ahead-post (a .there) (length (a .heights .now)) (a .p) (a .d) (start .pre .0 .post) (λ h. start .pre .0 .taken h .0))
+    rw (c .choose .ensures) (ahead-post (a .there) (a .inner) (length (a .heights .now)) (a .p) (a .d) (start .pre .0 .post) (λ h. start .pre .0 .taken h .0) (start .pre .0 .read))
 
 -- a height passed on is the height
 bits : (c : tie.After-struct-told2)
@@ -53,7 +53,7 @@ returns c =
     let y = f .found-at .result in
     let b = bits (c .before .before .before) in (
       rw (o .0, c .before .pick .ensures, c .before .before .is-less .ensures, b .0, b .1, start .pre .1, f .found-at .ensures .1, f .found-at .ensures .0, f .before .choose .ensures)
-          (ahead-step (a .heights .now) (a .up) (a .x .post) (a .p) (a .d) (length (a .heights .now)) (a .there) (start .pre .0 .small) (start .pre .0 .found) (start .pre .0 .near) (start .pre .0 .taken)),
+          (ahead-step (a .heights .now) (a .up) (a .x .post) (a .p) (a .d) (length (a .heights .now)) (a .there) (a .inner) (start .pre .0 .small) (start .pre .0 .found) (start .pre .0 .near) (start .pre .0 .taken)),
       rw (o .0, o .1) (held-or (a .heights .now) (a .there && c .before .pick .result) (y .post) (a .x .post) (y .height) (a .x .height) (f .found-at .ensures .1 ∙ ap (height (a .heights .now)) (sym (f .found-at .ensures .0))) (start .pre .1)),
     )
 

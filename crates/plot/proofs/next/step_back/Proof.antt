@@ -23,7 +23,7 @@ choose-requires c κs = search needs
 sub-q : tie.Need-sub-q
 sub-q c =
     let start = c .before in
-    rw (c .choose .ensures) (back-post (start .args .there) (start .args .p) (start .args .d) (λ h. start .pre .0 .taken h .0))
+    rw (c .choose .ensures) (back-post (start .args .there) (start .args .inner) (start .args .p) (start .args .d) (λ h. start .pre .0 .taken h .0) (start .pre .0 .read))
 
 found-at-requires : tie.Need-found-at-requires
 found-at-requires c κs = search needs
@@ -47,7 +47,7 @@ returns c =
     let y = f .found-at .result in
     let b = bits (c .before .before .before) in (
       rw (o .0, c .before .pick .ensures, c .before .before .is-less .ensures, b .0, b .1, start .pre .1, f .found-at .ensures .1, f .found-at .ensures .0, f .before .choose .ensures)
-          (back-step (a .heights .now) (a .up) (a .x .post) (a .p) (a .d) (a .there) (omega arith) (start .pre .0 .near) (start .pre .0 .taken)),
+          (back-step (a .heights .now) (a .up) (a .x .post) (a .p) (a .d) (a .there) (a .inner) (omega arith) (start .pre .0 .near) (start .pre .0 .taken)),
       rw (o .0, o .1) (held-or (a .heights .now) (a .there && c .before .pick .result) (y .post) (a .x .post) (y .height) (a .x .height) (f .found-at .ensures .1 ∙ ap (height (a .heights .now)) (sym (f .found-at .ensures .0))) (start .pre .1)),
     )
 
