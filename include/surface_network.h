@@ -21,7 +21,8 @@
  * A lower run is a longest stretch of the ring, taken as a circle, that lies
  * below the post; an upper run lies above it. Runs of each sort are numbered
  * from 0 by the ring place of their first member, the one whose predecessor is
- * of the other sort. A run that wraps from NW to N therefore comes last.
+ * of the other sort. A run that goes on from the ring's last member to N
+ * therefore comes last.
  *
  *
  * Rules for every call
@@ -114,7 +115,8 @@ typedef struct sn_counts {
     uint32_t code, place;
     uint32_t peaks;
     uint32_t pits;    /* the virtual pit included */
-    uint32_t saddles; /* summed by multiplicity; peaks + pits - saddles = 2 */
+    uint32_t saddles; /* summed by multiplicity; where accepted,
+                         peaks + pits - saddles = 2 */
 } sn_counts;
 
 typedef struct sn_next {
@@ -154,8 +156,8 @@ sn_counts sn_survey(uint32_t rows, uint32_t columns,
  * Reads   heights, rows * columns of them.
  * Writes  heights[post], and afresh the marks of that post and of those that
  *         touch it by side or corner. No other height or mark is touched. If the
- *         marks were those of a survey of the old heights, they are now those of
- *         a survey of the new ones.
+ *         marks were those of a survey of the old heights with these rows and
+ *         columns, they are now those of a survey of the new ones.
  * Answers SN_OK, or in this order
  *   SN_BAD_SIDES
  *   SN_BAD_HEIGHTS_LENGTH
@@ -256,8 +258,8 @@ sn_answer sn_dales_and_hills(uint32_t rows, uint32_t columns,
  * Read: rounds to whole millimetres, a half going away from zero.
  *
  * Reads   file.
- * Writes  heights: every entry. Bytes 5 and 6 of the file tell beforehand how
- *         many there must be.
+ * Writes  heights: every entry. Bytes 5 and 6 of a file of SN_FILE_HEADER bytes
+ *         or more tell beforehand how many there must be.
  * Answers SN_OK with rows and columns, or in this order
  *   SN_FILE_TOO_SHORT
  *   SN_BAD_VERSION

@@ -1,7 +1,7 @@
 -- A line call's outcome, by the row that refuses it or by its entries.
-use Prim.Native.Nat.{ℕ, _+_, _*_, _≤_, _<_}
+use Prim.Native.Nat.{ℕ, _+_, _≤_, _<_}
 use native.Mathlib.Omega.{arith}
-use mathlib.Core.Path.{_≡_, refl, sym, _∙_, ap}
+use mathlib.Core.Path.{_≡_, sym, _∙_, ap}
 use mathlib.Core.Bool.{Bool}
 use mathlib.Core.List.{List, [], _∷_, _++_}
 use borrow.Author.Tests.{ne-eqb, lt-ltb, le-ltb}
@@ -30,7 +30,7 @@ module _ (v : Verdict) (entries list : List ℕ) where
       → Outcome (record { code = 0; place = 0; count = count }) after
   accepted count after e n l = (rw (e, n), rw (e, l))
 
-module _ (rows columns : ℕ) (hs : List ℤ) (up : Bool) (post run : ℕ) (list : List ℕ) {r : Answer} (a : Placed rows columns hs post r) where
+module _ {rows columns : ℕ} {hs : List ℤ} {post : ℕ} {r : Answer} (a : Placed rows columns hs post r) (up : Bool) (run : ℕ) (list : List ℕ) where
   abbrev v : Verdict
   v = verdictOf rows columns hs up post run list
 

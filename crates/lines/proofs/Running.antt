@@ -2,8 +2,8 @@
 use Prim.Native.Nat.{ℕ, zero, suc, _+_, _-_, _≤_, _<_}
 use native.Mathlib.Omega.{arith}
 use native.Mathlib.Numerals.{add-one}
-use mathlib.Core.Path.{_≡_, refl, sym, _∙_, ap}
-use mathlib.Core.Bool.{Bool, true, false, cond, not, _&&_, true≢false}
+use mathlib.Core.Path.{_≡_, refl, _∙_, ap}
+use mathlib.Core.Bool.{Bool, true, false, not, _&&_}
 use mathlib.Core.List.{List, [], _∷_, _++_}
 use borrow.Author.Tests.{eqb-true, eqb-false, ltb-true, ltb-false}
 use lib.Dec.{ltb, eqb}
@@ -11,9 +11,10 @@ use lib.IntN.{ℤ}
 use lib.ListN.{length, getD, drop, List·getD-append, length-append}
 use lib.Seq.{drop-cons, drop-length, drop-append-le, getD-append-add, length-take-le}
 use mir.Val.{boolByte}
-use Rattle.surface.specs.Lists.{keep, all, takeWhile, lastOr}
+use Rattle.surface.specs.Lists.{keep, all, takeWhile}
 use Rattle.surface.specs.Edges.{lowest, lowestOr, runs, runsFrom}
 use Rattle.surface.proofs.Bools.{either, and-left, and-right}
+use Rattle.surface.proofs.RunStarts.{while-more, runs-circle}
 use Rattle.plot.specs.Scan.{lowerOf}
 use Rattle.surface.proofs.Walks.{Vertex}
 use Rattle.plot.specs.Rings.{held}
@@ -29,42 +30,18 @@ getD-back l m j h =
     let e : j ≡ length l + (j - length l) = omega arith in
     ap (λ (k : ℕ). getD (l ++ m) k 0) e ∙ getD-append-add l m (j - length l) 0
 
-last-getD : (x : ℕ) (l : List ℕ) → lastOr x l ≡ getD (x ∷ l) (length l) 0
-unfolding lastOr
-last-getD x [] = refl
-last-getD x (y ∷ l) = last-getD y l
-
 getD-after : (x : List ℕ) (l : List (List ℕ)) (n : ℕ) → (n ≡ 0 → ⊥) → getD (x ∷ l) n [] ≡ getD l (n - 1) []
 getD-after x l zero h = absurd (h refl)
 getD-after x l (suc n) h = ap (λ (m : ℕ). getD l m []) (omega arith)
 
 module _ (s : ℕ → Bool) where
-  pub while-more : (l : List ℕ) (j : ℕ) → j < length l → s (getD l j 0) ≡ true → takeWhile s (drop j l) ≡ getD l j 0 ∷ takeWhile s (drop (j + 1) l)
-  unfolding takeWhile
-  while-more l j h e = rw (drop-cons l j 0 h, e, add-one)
-
-  pub while-stop : (l : List ℕ) (j : ℕ) → j < length l → s (getD l j 0) ≡ false → takeWhile s (drop j l) ≡ []
-  unfolding takeWhile
-  while-stop l j h e = rw (drop-cons l j 0 h, e)
-
-  pub while-end : (l : List ℕ) (j : ℕ) → j ≡ length l → takeWhile s (drop j l) ≡ []
-  unfolding takeWhile
-  while-end l j e = rw (e, drop-length l)
-
   -- the search for run number j, come to place i: `before` tells of the member before it, and `left` runs are to be passed
   pub record Seek (ring : List ℕ) (j i : ℕ) (before : Bool) (left : ℕ) : Type 0 where
     pub number : length (runs s ring) + left ≡ j + length (runsFrom s before (drop i ring) ring)
     pub same : getD (runs s ring) j [] ≡ getD (runsFrom s before (drop i ring) ring) left []
 
-  runs-from : (ring : List ℕ) → 0 < length ring → all s ring ≡ false → runs s ring ≡ runsFrom s (s (getD ring (length ring - 1) 0)) ring ring
-  unfolding runs
-  runs-from [] h e = absurd (omega arith)
-  runs-from (x ∷ l) h e =
-      let k : length (x ∷ l) - 1 ≡ length l = omega arith in
-      rw (e, k, last-getD x l)
-
   pub seek-none : (ring : List ℕ) (j : ℕ) → 0 < length ring → all s ring ≡ false → Seek ring j 0 (s (getD ring (length ring - 1) 0)) j
-  seek-none ring j h e = let k = runs-from ring h e in record { number = rw k (omega arith); same = rw k }
+  seek-none ring j h e = let k = runs-circle s ring h e in record { number = rw k (omega arith); same = rw k }
 
   module _ {ring : List ℕ} {j i : ℕ} {before : Bool} {left : ℕ} (h : i < length ring) (k : Seek ring j i before left) where
     abbrev here : Bool
@@ -140,6 +117,9 @@ module _ (lower : ℕ → ℕ → Bool) (s : ℕ → Bool) (l : List ℕ) where
   pub low-none : (best j : ℕ) → takeWhile s (drop j l) ≡ [] → best ≡ lowestOr lower best (takeWhile s (drop j l))
   unfolding lowestOr
   low-none best j e = rw e
+
+pub lower-vertex : (lower : ℕ → ℕ → Bool) {n : ℕ} (x y : ℕ) → Vertex n x → Vertex n y → Vertex n (lowerOf lower x y)
+lower-vertex lower x y v w = either (lower y x) (λ e. rw e w) (λ e. rw e v)
 
 -- a ring gone round twice
 pub held-long : (r : Ring) → r .len ≤ 8 → length (r .members) ≡ 8 → length (held r) ≡ r .len

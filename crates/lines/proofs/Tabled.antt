@@ -2,10 +2,10 @@
 use Prim.Native.Nat.{ℕ, zero, suc, _+_, _*_, _≤_, _<_}
 use native.Mathlib.Omega.{arith}
 use mathlib.Core.Path.{_≡_, refl, sym, _∙_, ap, subst}
-use mathlib.Core.Bool.{Bool, true, false, cond, not, _&&_, true≢false}
+use mathlib.Core.Bool.{Bool, true, false, cond, not, true≢false}
 use mathlib.Core.List.{List, [], _∷_, _++_, List·Memᴰ, List·Memᴰ·head, List·Memᴰ·tail}
 use borrow.Author.Tests.{ltb-true, lt-ltb, le-ltb, not-true}
-use lib.Dec.{ltb, eqb}
+use lib.Dec.{ltb}
 use lib.IntN.{ℤ}
 use lib.ListN.{length, getD, drop}
 use Rattle.surface.specs.Lists.{any, all, takeWhile}
@@ -14,7 +14,6 @@ use Rattle.surface.specs.Edges.{lowest, runs}
 use Rattle.surface.specs.Marks.{ringOf, markFor, mark, markAt}
 use Rattle.surface.specs.Refusals.{Row, verdict, row1, row2, row4, row5}
 use Rattle.surface.specs.Calls.{answer}
-use Rattle.surface.specs.declared.Answer.{Answer}
 use Rattle.surface.proofs.Bools.{either}
 use Rattle.surface.proofs.Lowest.{lowest-member}
 use Rattle.surface.proofs.RunMembers.{runs-run}
@@ -24,10 +23,9 @@ use Rattle.surface.proofs.Walks.{Vertex}
 use Rattle.plot.specs.Fits.{Fits}
 use Rattle.plot.specs.Limits.{Sized}
 use Rattle.plot.specs.Scan.{toward}
-use Rattle.plot.specs.Rings.{held, Held}
+use Rattle.plot.specs.Rings.{Held}
 use Rattle.plot.specs.declared.ring.Ring.{Ring}
 use Rattle.plot.proofs.Round.{few}
-use Rattle.lines.specs.declared.table.Start.{Start}
 use Rattle.lines.specs.Runs.{StartsAt, Round}
 use Rattle.lines.specs.Rows.{Placed, Started}
 use Rattle.lines.proofs.Walking.{strict, others, vertices}

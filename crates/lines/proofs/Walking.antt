@@ -1,70 +1,35 @@
 -- Walks in either direction over a plot: document 01's descent is one, and so is its ascent, in the reversed order.
 use Prim.Native.Nat.{ℕ, zero, suc, _+_, _-_, _*_, _≤_, _<_}
 use native.Mathlib.Omega.{arith}
-use native.Mathlib.Numerals.{add-one}
-use mathlib.Core.Path.{_≡_, refl, sym, _∙_, ap, ap₂, subst}
-use mathlib.Core.Logic.{_⊎_, ⊎-elim, inl, inr}
-use mathlib.Core.Bool.{Bool, true, false, cond, not, true≢false}
-use mathlib.Core.List.{List, [], _∷_, _++_, List·Memᴰ}
+use mathlib.Core.Path.{_≡_, refl, sym, _∙_, ap, subst}
+use mathlib.Core.Logic.{_⊎_, ⊎-elim}
+use mathlib.Core.Bool.{Bool, true, false, true≢false}
+use mathlib.Core.List.{List, [], _∷_, List·Memᴰ}
 use lib.IntN.{ℤ}
-use lib.ListN.{length, drop, set}
+use lib.ListN.{length, set}
 use Rattle.surface.specs.Lists.{listOf}
-use Rattle.surface.specs.Plot.{virtualPit, below, reversed}
+use Rattle.surface.specs.Plot.{virtualPit, below}
 use Rattle.surface.specs.Edges.{throughLowest}
 use Rattle.surface.specs.Marks.{ringOf}
-use Rattle.surface.specs.Lines.{isEnd, next, walk, end, line, lowestOf}
+use Rattle.surface.specs.Lines.{end, lowestOf}
 use Rattle.surface.proofs.Bools.{either}
 use Rattle.surface.proofs.Grid.{Sides}
 use Rattle.surface.proofs.Order.{StrictTotal, below-strict, reversed-strict, rank}
 use Rattle.surface.proofs.RingEdges.{ring-member, ring-other}
 use Rattle.surface.proofs.Lowest.{lowest-member}
-use Rattle.surface.proofs.Walks.{Vertex, Descent, next-step, next-stop, pit-stop, walk-next, end-next, end-stop}
+use Rattle.surface.proofs.Walks.{Vertex, Descent, next-step, next-stop, pit-stop, walk-next, end-more, end-next, end-stop}
+use Rattle.surface.proofs.WalkEntries.{listOf-front, walk-low, walk-list}
 use Rattle.surface.proofs.ListOf.{Filled}
 use Rattle.plot.specs.Fits.{Fits}
 use Rattle.plot.specs.Scan.{toward}
 use Rattle.plot.proofs.Round.{few}
-use Rattle.lines.specs.Directed.{isEndOf, nextOf, after, walkOf, lineOf, entryOf}
+use Rattle.lines.specs.Directed.{isEndOf, nextOf, after, walkOf, entryOf}
 use Rattle.lines.specs.declared.walk.Walk.{Walk}
 use Rattle.lines.specs.declared.walk.Followed.{Followed}
 
 pub strict : (hs : List ℤ) (up : Bool) → StrictTotal (toward hs up)
 strict hs true = reversed-strict (below-strict hs)
 strict hs false = below-strict hs
-
--- m steps, and one more
-end-more : (lower : ℕ → ℕ → Bool) (ring : ℕ → List ℕ) (pick : ℕ → List ℕ → ℕ) (m p : ℕ) → end lower ring pick (suc m) p ≡ next lower ring pick (end lower ring pick m p)
-unfolding end
-end-more lower ring pick zero p = refl
-end-more lower ring pick (suc m) p = end-more lower ring pick m (next lower ring pick p)
-
--- a walk has at most one entry more than steps, and these are where its steps lead
-walk-low : (lower : ℕ → ℕ → Bool) (ring : ℕ → List ℕ) (pick : ℕ → List ℕ → ℕ) (m p : ℕ) → length (walk lower ring pick m p) ≤ m + 1
-unfolding walk
-walk-low lower ring pick zero p = omega arith
-walk-low lower ring pick (suc m) p = go (isEnd lower ring pick p) (walk-low lower ring pick m (next lower ring pick p))
-  where
-    go : (b : Bool) → length (walk lower ring pick m (next lower ring pick p)) ≤ m + 1 → length (p ∷ cond b [] (walk lower ring pick m (next lower ring pick p))) ≤ suc m + 1
-    go true h = omega arith
-    go false h = omega arith
-
-listOf-front : (f : ℕ → ℕ) (n : ℕ) → listOf f (suc n) ≡ f 0 ∷ listOf (λ i. f (suc i)) n
-unfolding listOf
-listOf-front f zero = refl
-listOf-front f (suc n) = rw (listOf-front f n)
-
-walk-list : (lower : ℕ → ℕ → Bool) (ring : ℕ → List ℕ) (pick : ℕ → List ℕ → ℕ) (m p : ℕ)
-    → walk lower ring pick m p ≡ listOf (λ i. end lower ring pick i p) (length (walk lower ring pick m p))
-unfolding walk end listOf
-walk-list lower ring pick zero p = refl
-walk-list lower ring pick (suc m) p = go (isEnd lower ring pick p) (walk-list lower ring pick m (next lower ring pick p))
-  where
-    w : List ℕ
-    w = walk lower ring pick m (next lower ring pick p)
-
-    go : (b : Bool) → w ≡ listOf (λ i. end lower ring pick i (next lower ring pick p)) (length w)
-        → p ∷ cond b [] w ≡ listOf (λ i. end lower ring pick i p) (length (p ∷ cond b [] w))
-    go true h = refl
-    go false h = ap (λ (l : List ℕ). p ∷ l) h ∙ sym (listOf-front (λ i. end lower ring pick i p) (length w))
 
 module _ {rows columns : ℕ} {hs : List ℤ} (fits : Fits rows columns hs) where
   sides : Sides rows columns
@@ -119,6 +84,10 @@ module _ {rows columns : ℕ} {hs : List ℤ} (fits : Fits rows columns hs) wher
     vertex-next p v =
         either (isEndOf rows columns hs up p) (λ e. subst (Vertex (rows * columns)) (sym (next-stop descent p e)) v) (λ e. next-step descent p v e .vertex)
 
+    -- one step more
+    pub after-more : (q i : ℕ) → 1 ≤ i → nextOf rows columns hs up (after rows columns hs up (i - 1) q) ≡ after rows columns hs up (i + 1 - 1) q
+    after-more q i h = sym (end-more descent (i - 1) q) ∙ ap (λ (m : ℕ). after rows columns hs up m q) (omega arith)
+
     pub length-low : (p : ℕ) → length (walkOf rows columns hs up p) ≤ 14401
     length-low p = omega (arith, walk-low (toward hs up) (ringOf rows columns hs) (lowestOf (toward hs up)) (rows * columns) p, few fits)
 
@@ -170,10 +139,6 @@ module _ (rows columns : ℕ) (hs : List ℤ) (up : Bool) (p q : ℕ) where
   unfolding entryOf
   entry-after zero h = absurd (omega arith)
   entry-after (suc i) h = ap (λ (m : ℕ). after rows columns hs up m q) (omega arith)
-
-  pub after-more : (i : ℕ) → 1 ≤ i → nextOf rows columns hs up (after rows columns hs up (i - 1) q) ≡ after rows columns hs up (i + 1 - 1) q
-  after-more i h =
-      sym (end-more (toward hs up) (ringOf rows columns hs) (lowestOf (toward hs up)) (i - 1) q) ∙ ap (λ (m : ℕ). after rows columns hs up m q) (omega arith)
 
   pub line-entries : p ∷ walkOf rows columns hs up q ≡ listOf (entryOf rows columns hs up p q) (1 + length (walkOf rows columns hs up q))
   unfolding entryOf

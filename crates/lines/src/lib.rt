@@ -11,7 +11,7 @@ use surface::Next;
 use table::placed;
 use walk::Walk;
 ghost use mathlib.Core.Path.{_≡_};
-ghost use mathlib.Core.Bool.{Bool, true, false};
+ghost use mathlib.Core.Bool.{true, false};
 ghost use Rattle.surface.specs.Calls.{nextDownAnswer, nextUpAnswer, thalwegAnswer, thalwegList, ridgeAnswer, ridgeList};
 ghost use Rattle.lines.specs.Directed.{nextAnswerOf};
 

@@ -37,6 +37,17 @@ fn write_entries(
     }
 }
 
+// The answer of a line that is refused.
+fn refused(code: u32, place: u32) -> Entries
+    ensures { λ r. ⌜ r ≡ record { code = code; place = place; count = 0 } ⌝ }
+{
+    Entries {
+        code,
+        place,
+        count: 0,
+    }
+}
+
 // The line of a post and a run, downward, or upward where `up`.
 pub(crate) fn draw_line(
     rows: u32,
@@ -52,49 +63,25 @@ pub(crate) fn draw_line(
 {
     let refusal = placed(rows, columns, heights, post);
     if refusal.code != 0 {
-        return Entries {
-            code: refusal.code,
-            place: refusal.place,
-            count: 0,
-        };
+        return refused(refusal.code, refusal.place);
     }
-    let start = start_of(
-        heights,
-        rows as usize,
-        columns as usize,
-        up,
-        post as usize,
-        run,
-    );
+    let r = rows as usize;
+    let c = columns as usize;
+    let p = post as usize;
+    let start = start_of(heights, r, c, up, p, run);
     if start.code != 0 {
-        return Entries {
-            code: start.code,
-            place: 0,
-            count: 0,
-        };
+        return refused(start.code, 0);
     }
     let from = Walk {
         post: start.post,
         up,
     };
-    let walked = follow(heights, rows as usize, columns as usize, from);
+    let walked = follow(heights, r, c, from);
     let count = 1 + walked.entries;
     if line.len() < count {
-        return Entries {
-            code: 9,
-            place: 0,
-            count: 0,
-        };
+        return refused(9, 0);
     }
-    write_entries(
-        heights,
-        rows as usize,
-        columns as usize,
-        post as usize,
-        from,
-        count,
-        line,
-    );
+    write_entries(heights, r, c, p, from, count, line);
     Entries {
         code: 0,
         place: 0,

@@ -6,7 +6,6 @@ use plot::limits::sized;
 use plot::mark::mark_at;
 use plot::ring::ring_at;
 use surface::Answer;
-ghost use mathlib.Core.Path.{_≡_};
 ghost use Prim.Native.Nat.{_*_, _<_};
 ghost use Rattle.plot.specs.Fits.{Fits};
 ghost use Rattle.lines.specs.Rows.{Placed, Started};

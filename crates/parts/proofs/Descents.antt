@@ -2,15 +2,15 @@
 use Prim.Native.Nat.{ℕ, zero, suc, _*_, _≤_, _<_}
 use native.Mathlib.Omega.{arith}
 use mathlib.Core.Path.{_≡_, refl, sym, _∙_, ap}
-use mathlib.Core.Logic.{_⊎_, ⊎-elim, inl, inr}
+use mathlib.Core.Logic.{⊎-elim, inl, inr}
 use mathlib.Core.Bool.{Bool, true, false, cond}
-use mathlib.Core.List.{List, List·Memᴰ}
+use mathlib.Core.List.{List}
 use lib.Dec.{ltb}
 use lib.IntN.{ℤ}
-use lib.ListN.{length, getD}
+use lib.ListN.{length}
 use borrow.Author.Tests.{ltb-true, ltb-false}
 use Rattle.surface.specs.Lists.{listOf}
-use Rattle.surface.specs.Plot.{virtualPit, below, reversed}
+use Rattle.surface.specs.Plot.{virtualPit, below}
 use Rattle.surface.specs.Edges.{throughLowest}
 use Rattle.surface.specs.Marks.{ringOf}
 use Rattle.surface.specs.Lines.{isEnd, next, end, lowestOf, nextDown, nextUp, daleAt, hillAt, dalesOf, hillsOf}

@@ -1,6 +1,7 @@
 -- Paths that come to an end, and what shortening them keeps.
 use Prim.Native.Nat.{ℕ, zero, suc, _+_, _≤_, _<_}
 use native.Mathlib.Omega.{arith}
+use native.Mathlib.Nat.{zero-add, suc-add}
 use mathlib.Core.Path.{_≡_, refl, sym, _∙_, ap}
 use mathlib.Core.Logic.{_⊎_, ⊎-elim}
 use mathlib.Core.Bool.{Bool, true, false, cond}
@@ -37,6 +38,11 @@ module _ (l : List ℕ) where
   unfolding after
   after-one zero p = refl
   after-one (suc k) p = after-one k (follow l p)
+
+  pub after-add : (j k p : ℕ) → after l j (after l k p) ≡ after l (k + j) p
+  unfolding after
+  after-add j zero p = rw (zero-add j)
+  after-add j (suc k) p = rw (suc-add k j) (after-add j k (follow l p))
 
   after-swap : (j k p : ℕ) → after l j (after l k p) ≡ after l k (after l j p)
   unfolding after
@@ -136,7 +142,7 @@ unfolding after
 shorter-none l = record { size = refl; along = λ p. (0, refl) }
 
 -- what a walk reads and stores in a list of shorter paths, at a post e
-module _ {l l′ : List ℕ} (ends : Ends l) (s : Shorter l l′) (e : ℕ) where
+module _ {l l′ : List ℕ} (s : Shorter l l′) (e : ℕ) where
   -- a post that is not its end
   pub record Under : Type 0 where
     pub inside : e < length l
@@ -152,19 +158,34 @@ module _ {l l′ : List ℕ} (ends : Ends l) (s : Shorter l l′) (e : ℕ) wher
   read : e < length l → getD l′ e 0 ≡ after l (suc (s .along e .0)) e
   read h = entry l′ e 0 e (omega (arith, s .size)) ∙ s .along e .1
 
-  pub read-end : e < length l → endIn l (getD l′ e 0) ≡ endIn l e
-  read-end h = ap (endIn l) (read h) ∙ same-end ends (suc (s .along e .0)) e
+  pub read-end : Ends l → e < length l → endIn l (getD l′ e 0) ≡ endIn l e
+  read-end ends h = ap (endIn l) (read h) ∙ same-end ends (suc (s .along e .0)) e
 
-  pub read-nearer : Under → stepsIn l (getD l′ e 0) < stepsIn l e
-  read-nearer u = omega (arith, ap (stepsIn l) (read (u .inside)), along-nearer ends (s .along e .0) e (u .moves))
+  pub read-nearer : Ends l → Under → stepsIn l (getD l′ e 0) < stepsIn l e
+  read-nearer ends u = omega (arith, ap (stepsIn l) (read (u .inside)), along-nearer ends (s .along e .0) e (u .moves))
 
-  pub store-end : e < length l → (x : ℕ) → endIn l e ≡ x → Shorter l (set l′ e x)
-  unfolding after
-  store-end h x v = record { size = length-set l′ e x ∙ s .size; along = λ q. go q (ℕ-discrete q e) }
+  -- a store of what stands further along
+  store-along : e < length l → (x k : ℕ) → x ≡ after l (suc k) e → Shorter l (set l′ e x)
+  store-along h x k v = record { size = length-set l′ e x ∙ s .size; along = λ q. go q (ℕ-discrete q e) }
     where
       go : (q : ℕ) → Dec (q ≡ e) → (k : ℕ) × (follow (set l′ e x) q ≡ after l (suc k) q)
-      go q (yes i) = (length l, rw i (getD-set-same l′ e x e (omega (arith, s .size)) ∙ sym v ∙ sym (same-end ends 1 e)))
+      go q (yes i) = (k, rw i (getD-set-same l′ e x e (omega (arith, s .size)) ∙ v))
       go q (no i) = let a = s .along q in (a .0, getD-set-other l′ e q x q i ∙ a .1)
+
+  pub store-end : Ends l → e < length l → (x : ℕ) → endIn l e ≡ x → Shorter l (set l′ e x)
+  unfolding after
+  store-end ends h x v = store-along h x (length l) (sym v ∙ sym (same-end ends 1 e))
+
+  -- the entry of the post that e's entry names, where it names one
+  pub store-ahead : e < length l → (b : Bool) → (b ≡ true → getD l′ e 0 < length l)
+      → Shorter l (set l′ e (getD l′ (cond b (getD l′ e 0) e) 0))
+  unfolding after
+  store-ahead h true k =
+      let q = getD l′ e 0 in
+      let m = s .along q in
+      store-along h (getD l′ q 0) (s .along e .0 + suc (m .0))
+      (entry l′ q 0 q (omega (arith, s .size, k refl)) ∙ m .1 ∙ ap (after l (suc (m .0))) (read h) ∙ after-add l (suc (m .0)) (s .along e .0) (follow l e))
+  store-ahead h false k = store-along h (getD l′ e 0) (s .along e .0) (read h)
 
 -- an entry stays x where every store is of x
 pub stored : (l : List ℕ) (e p x : ℕ) → e < length l → (e ≡ p) ⊎ (follow l p ≡ x) → follow (set l e x) p ≡ x

@@ -6,10 +6,9 @@ use plot::next::next_up_at;
 use plot::row::falls_row;
 ghost use mathlib.Core.Path.{_≡_};
 ghost use mathlib.Core.Bool.{true, false};
-ghost use Prim.Native.Nat.{ℕ, _+_, _-_, _*_, _≤_, _<_};
+ghost use Prim.Native.Nat.{_+_, _-_, _*_, _≤_, _<_};
 ghost use lib.ListN.{length};
 ghost use Rattle.surface.specs.Lists.{listOf};
-ghost use Rattle.surface.specs.Lines.{nextDown, nextUp};
 ghost use Rattle.plot.specs.Fits.{Fits};
 ghost use Rattle.plot.specs.Stores.{stores};
 ghost use Rattle.plot.specs.Rows.{Inner};
@@ -46,7 +45,7 @@ fn next_each(
     }
 }
 
-// Of the posts of a row that is neither the top nor the bottom one, without its two ends.
+// Of the posts of a row that is neither the top nor the bottom one, without its two ends, downward and upward.
 fn next_inner(
     heights: &[i32],
     rows: usize,
@@ -54,31 +53,27 @@ fn next_inner(
     base: usize,
     above: &[bool],
     here: &[bool],
-    up: bool,
-    list: &mut [u16],
+    down: &mut [u16],
+    up: &mut [u16],
 )
-    requires { ⌜ Inner rows columns (now heights) base (now above) (now here) × (length (now list) ≡ rows * columns) ⌝ }
-    ensures { λ _. ⌜ now (list .exit) ≡ stores (nextBy up rows columns (now (heights .entry))) (base + 1) (columns - 2) (now (list .entry)) ⌝ }
+    requires { ⌜ Inner rows columns (now heights) base (now above) (now here) × (length (now down) ≡ rows * columns) × (length (now up) ≡ rows * columns) ⌝ }
+    ensures { λ _. ⌜ now (down .exit) ≡ stores (nextBy false rows columns (now (heights .entry))) (base + 1) (columns - 2) (now (down .entry)) ⌝ }
+    ensures { λ _. ⌜ now (up .exit) ≡ stores (nextBy true rows columns (now (heights .entry))) (base + 1) (columns - 2) (now (up .entry)) ⌝ }
 {
     let mut c = 1;
     while c + 1 < columns {
-        let next = next_inside(
-            heights,
-            rows,
-            columns,
-            base + c,
-            above[c - 1],
-            above[c],
-            here[c - 1],
-            here[c],
-            up,
-        );
-        list[base + c] = next as u16;
+        let p = base + c;
+        let nw = above[c - 1];
+        let ne = above[c];
+        let sw = here[c - 1];
+        let se = here[c];
+        down[p] = next_inside(heights, rows, columns, p, nw, ne, sw, se, false) as u16;
+        up[p] = next_inside(heights, rows, columns, p, nw, ne, sw, se, true) as u16;
         c += 1;
     }
 }
 
-// Of a row that is neither the top nor the bottom one.
+// Of a row that is neither the top nor the bottom one, downward and upward.
 fn next_row(
     heights: &[i32],
     rows: usize,
@@ -86,15 +81,19 @@ fn next_row(
     base: usize,
     above: &[bool],
     here: &[bool],
-    up: bool,
-    list: &mut [u16],
+    down: &mut [u16],
+    up: &mut [u16],
 )
-    requires { ⌜ Inner rows columns (now heights) base (now above) (now here) × (length (now list) ≡ rows * columns) ⌝ }
-    ensures { λ _. ⌜ now (list .exit) ≡ stores (nextBy up rows columns (now (heights .entry))) base columns (now (list .entry)) ⌝ }
+    requires { ⌜ Inner rows columns (now heights) base (now above) (now here) × (length (now down) ≡ rows * columns) × (length (now up) ≡ rows * columns) ⌝ }
+    ensures { λ _. ⌜ now (down .exit) ≡ stores (nextBy false rows columns (now (heights .entry))) base columns (now (down .entry)) ⌝ }
+    ensures { λ _. ⌜ now (up .exit) ≡ stores (nextBy true rows columns (now (heights .entry))) base columns (now (up .entry)) ⌝ }
 {
-    next_each(heights, rows, columns, base, 1, up, list);
-    next_inner(heights, rows, columns, base, above, here, up, list);
-    next_each(heights, rows, columns, base + (columns - 1), 1, up, list);
+    let end = base + (columns - 1);
+    next_each(heights, rows, columns, base, 1, false, down);
+    next_each(heights, rows, columns, base, 1, true, up);
+    next_inner(heights, rows, columns, base, above, here, down, up);
+    next_each(heights, rows, columns, end, 1, false, down);
+    next_each(heights, rows, columns, end, 1, true, up);
 }
 
 // Of every row between the top and the bottom one, downward and upward.
@@ -110,8 +109,7 @@ fn next_rows(heights: &[i32], rows: usize, columns: usize, down: &mut [u16], up:
     while r + 1 < rows {
         let base = r * columns;
         falls_row(heights, columns, base, &mut here);
-        next_row(heights, rows, columns, base, &above, &here, false, down);
-        next_row(heights, rows, columns, base, &above, &here, true, up);
+        next_row(heights, rows, columns, base, &above, &here, down, up);
         above = here;
         r += 1;
     }

@@ -16,7 +16,7 @@ use Rattle.surface.specs.Edges.{Place, place, members, places, ring, top, botto
 use Rattle.plot.specs.declared.ring.Ring.{Ring}
 use Rattle.plot.specs.Fits.{Fits}
 use Rattle.plot.specs.Borders.{bordersOf}
-use Rattle.plot.specs.Signs.{cornersOf, Room}
+use Rattle.plot.specs.Signs.{cornersOf}
 use Rattle.plot.specs.Rings.{held, Grown, Held, ringPlaces, RingRoom}
 use Rattle.plot.proofs.Round.{few, off, north, room}
 

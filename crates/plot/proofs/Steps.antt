@@ -8,7 +8,7 @@ use lib.IntN.{ℤ}
 use lib.Signed.{ltZ}
 use Rattle.surface.specs.Plot.{height, virtualPit}
 use Rattle.surface.specs.Edges.{Place}
-use Rattle.plot.specs.Scan.{toward, step, scan, Back, Ahead}
+use Rattle.plot.specs.Scan.{toward, step, scan, Held, Back, Ahead}
 use Rattle.plot.proofs.Order.{below-high, below-low}
 
 -- a post that is not there is taken for p itself
@@ -70,6 +70,11 @@ module _ (hs : List ℤ) (up : Bool) (x p d : ℕ) where
         kept = λ e. absurd (true≢false e);
       }
   ahead-step n false k i high h = record { value = refl; low = omega arith; high = high; post = i; kept = λ _. refl }
+
+-- the height held beside a post is kept by a choice
+pub held-or : (hs : List ℤ) (b : Bool) (q x : ℕ) (y z : ℤ) → Held hs q y → Held hs x z → Held hs (cond b q x) (cond b y z)
+held-or hs true q x y z h k = h
+held-or hs false q x y z h k = k
 
 -- a scan, one step after the other
 pub scan-end : (lower : ℕ → ℕ → Bool) (x : ℕ) → x ≡ scan lower x []

@@ -4,7 +4,7 @@ use mathlib.Core.Path.{_≡_}
 use mathlib.Core.Bool.{Bool, true, false, cond, not}
 use mathlib.Core.List.{List, [], _∷_}
 use lib.IntN.{ℤ}
-use Rattle.surface.specs.Plot.{below, reversed}
+use Rattle.surface.specs.Plot.{height, below, reversed}
 use Rattle.surface.specs.Edges.{Place, place}
 use Rattle.plot.specs.declared.border.Borders.{Borders}
 use Rattle.plot.specs.declared.sign.Corners.{Corners}
@@ -37,6 +37,10 @@ turn columns p at with =
     ∷ place (with .se) (p + (columns + 1))
     ∷ place (with .nw) (p - (columns + 1))
     ∷ []
+
+-- z is the height of post x
+abbrev pub Held : List ℤ → ℕ → ℤ → Type 0
+Held hs x z = z ≡ height hs x
 
 -- what a step from x to the place d numbers before p, or after it, asks: in a plot of n posts x is numbered after what is there, or before it
 pub record BackAsks (n x p d : ℕ) (there : Bool) : Type 0 where

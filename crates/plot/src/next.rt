@@ -2,7 +2,6 @@
 // each is numbered before, or after, all that may have been found so far, so that the order of the numbers settles a tie. The virtual pit is 65535.
 use crate::border;
 use crate::border::Borders;
-use crate::cell;
 use crate::side;
 use crate::sign;
 use crate::sign::Corners;
@@ -10,10 +9,12 @@ ghost use mathlib.Core.Path.{_≡_};
 ghost use mathlib.Core.Bool.{true, cond};
 ghost use Prim.Native.Nat.{_+_, _-_, _*_, _≤_, _<_};
 ghost use lib.ListN.{length};
+ghost use lib.Signed.{ltZ};
+ghost use Rattle.surface.specs.Plot.{height};
 ghost use Rattle.surface.specs.Lines.{nextDown, nextUp};
 ghost use Rattle.plot.specs.Fits.{Fits};
 ghost use Rattle.plot.specs.Signs.{Room, Inside};
-ghost use Rattle.plot.specs.Scan.{toward, scan, turn, BackAsks, Back, AheadAsks, Ahead, Wide};
+ghost use Rattle.plot.specs.Scan.{toward, scan, turn, Held, BackAsks, Back, AheadAsks, Ahead, Wide};
 
 // x where b holds, else y.
 pub fn choose(b: bool, x: usize, y: usize) -> usize
@@ -22,26 +23,59 @@ pub fn choose(b: bool, x: usize, y: usize) -> usize
     if b { x } else { y }
 }
 
+// The lowest post found so far, and its height: held beside it, since a height read again at a post just chosen would wait for the choice.
+pub struct Found {
+    pub post: usize,
+    pub height: i32,
+}
+
+// Post p, as what is found first.
+pub fn found_at(heights: &[i32], p: usize) -> Found
+    requires { ⌜ p < length (now heights) ⌝ }
+    ensures { λ r. ⌜ (r .post ≡ p) × (r .height ≡ height (now (heights .entry)) p) ⌝ }
+{
+    Found {
+        post: p,
+        height: heights[p],
+    }
+}
+
+// The height a is less than b.
+pub fn is_less(a: i32, b: i32) -> bool
+    ensures { λ r. ⌜ r ≡ ltZ a b ⌝ }
+{
+    a < b
+}
+
+// y where b holds, else x.
+pub fn found_or(b: bool, y: Found, x: Found) -> Found
+    ensures { λ r. ⌜ (r .post ≡ cond b (y .post) (x .post)) × (r .height ≡ cond b (y .height) (x .height)) ⌝ }
+{
+    if b { y } else { x }
+}
+
 // The lower of x and the post d numbers before p, the higher where `up`; x where that post is not there. It is numbered before x.
-pub fn step_back(heights: &[i32], up: bool, x: usize, p: usize, d: usize, there: bool) -> usize
-    requires { ⌜ BackAsks (length (now heights)) x p d there ⌝ }
-    ensures { λ r. ⌜ Back (toward (now (heights .entry)) up) x p d there r ⌝ }
+pub fn step_back(heights: &[i32], up: bool, x: Found, p: usize, d: usize, there: bool) -> Found
+    requires { ⌜ BackAsks (length (now heights)) (x .post) p d there × Held (now heights) (x .post) (x .height) ⌝ }
+    ensures { λ r. ⌜ Back (toward (now (heights .entry)) up) (x .post) p d there (r .post) × Held (now (heights .entry)) (r .post) (r .height) ⌝ }
 {
     let q = p - choose(there, d, 0);
-    let less = cell::less(heights, x, q);
+    let y = found_at(heights, q);
+    let less = is_less(x.height, y.height);
     let take = side::pick(up, less, !less);
-    choose(there & take, q, x)
+    found_or(there & take, y, x)
 }
 
 // The same of the post d numbers after p, which is numbered after x.
-pub fn step_ahead(heights: &[i32], up: bool, x: usize, p: usize, d: usize, there: bool) -> usize
-    requires { ⌜ AheadAsks (length (now heights)) x p d there ⌝ }
-    ensures { λ r. ⌜ Ahead (toward (now (heights .entry)) up) (length (now (heights .entry))) x p d there r ⌝ }
+pub fn step_ahead(heights: &[i32], up: bool, x: Found, p: usize, d: usize, there: bool) -> Found
+    requires { ⌜ AheadAsks (length (now heights)) (x .post) p d there × Held (now heights) (x .post) (x .height) ⌝ }
+    ensures { λ r. ⌜ Ahead (toward (now (heights .entry)) up) (length (now (heights .entry))) (x .post) p d there (r .post) × Held (now (heights .entry)) (r .post) (r .height) ⌝ }
 {
     let q = p + choose(there, d, 0);
-    let less = cell::less(heights, q, x);
+    let y = found_at(heights, q);
+    let less = is_less(y.height, x.height);
     let take = side::pick(up, !less, less);
-    choose(there & take, q, x)
+    found_or(there & take, y, x)
 }
 
 // The lowest of p and its neighbours, the highest where `up`; p stands at these borders and is joined to these corners.
@@ -56,14 +90,16 @@ pub fn lowest_round(
     requires { ⌜ Room (length (now heights)) columns p at with × Wide columns at with ⌝ }
     ensures { λ r. ⌜ r ≡ scan (toward (now (heights .entry)) up) p (turn columns p at with) ⌝ }
 {
-    let w = step_back(heights, up, p, p, 1, !at.first);
+    let x = found_at(heights, p);
+    let w = step_back(heights, up, x, p, 1, !at.first);
     let ne = step_back(heights, up, w, p, columns - 1, with.ne);
     let n = step_back(heights, up, ne, p, columns, !at.top);
     let e = step_ahead(heights, up, n, p, 1, !at.last);
     let sw = step_ahead(heights, up, e, p, columns - 1, with.sw);
     let s = step_ahead(heights, up, sw, p, columns, !at.bottom);
     let se = step_ahead(heights, up, s, p, columns + 1, with.se);
-    step_back(heights, up, se, p, columns + 1, with.nw)
+    let nw = step_back(heights, up, se, p, columns + 1, with.nw);
+    nw.post
 }
 
 // Next up from any post.

@@ -5,14 +5,14 @@ use native.Mathlib.Omega.{arith}
 use mathlib.Core.Path.{_≡_, refl, _∙_, ap}
 use mathlib.Core.Bool.{Bool, true, false, cond, not, _&&_, _||_}
 use mathlib.Core.List.{List, [], _∷_}
-use borrow.Author.Tests.{leb-true, ltb-true, ltb-false, eqb-true, eq-eqb, le-ltb, not-false}
+use borrow.Author.Tests.{leb-true, ltb-true, ltb-false, eqb-true, eq-eqb, lt-ltb, le-ltb, not-false}
 use lib.Dec.{leb, ltb, eqb}
 use lib.IntN.{ℤ}
 use lib.ListN.{length, getD}
 use Rattle.surface.specs.Lists.{all, firstNot}
 use Rattle.surface.specs.Plot.{isSide, isHeight}
 use Rattle.surface.specs.Edges.{lowerRuns}
-use Rattle.surface.specs.Marks.{ringOf}
+use Rattle.surface.specs.Marks.{ringOf, markAt}
 use Rattle.surface.specs.SurveyFile.{statedCount, countFor, fileSize, isTenths, tenthsOf}
 use Rattle.surface.specs.Refusals.{verdict, surveyVerdict, reshootVerdict, lineVerdict, partsVerdict, readVerdict, writeVerdict}
 use Rattle.surface.proofs.Bools.{and-left, and-right, or-left, or-right}
@@ -100,6 +100,28 @@ module _ (rows columns : ℕ) (hs : List ℤ) where
     pub plotted-survey : (marks : List ℕ) → length marks ≡ rows * columns → surveyVerdict rows columns hs marks ≡ record { code = 0; place = 0 }
     unfolding surveyVerdict
     plotted-survey marks h = clear-accepted _ (row1-passes, (same _ _ (p .size), (same _ _ h, (row4-passes, tt))))
+
+    -- a line of a saddle and one of its runs, into a list that has room
+    pub plotted-line : (lower : ℕ → ℕ → Bool) (entries : List ℕ) (post run : ℕ) (list : List ℕ) → post < rows * columns → 3 ≤ markAt rows columns hs post
+        → run < length (lowerRuns lower (ringOf rows columns hs) post)
+        → length entries ≤ length list
+        → lineVerdict rows columns hs lower entries post run list ≡ record { code = 0; place = 0 }
+    unfolding lineVerdict
+    plotted-line lower entries post run list h m k r =
+        clear-accepted
+        _ (
+          row1-passes,
+          (
+            same _ _ (p .size),
+            (
+              row4-passes,
+              (
+                ap not (lt-ltb post (rows * columns) h),
+                (le-ltb (markAt rows columns hs post) 3 m, (ap not (lt-ltb run _ k), (le-ltb (length list) (length entries) r, tt))),
+              ),
+            ),
+          ),
+        )
 
     pub plotted-parts : (dales hills : List ℕ) → length dales ≡ rows * columns → length hills ≡ rows * columns
         → partsVerdict rows columns hs dales hills ≡ record { code = 0; place = 0 }

@@ -12,7 +12,7 @@ use lib.Seq.{take-append-seam}
 use borrow.Author.Tests.{eqb-true, eq-eqb}
 use Rattle.surface.specs.Lists.{listOf, any, count, one}
 use Rattle.surface.specs.Plot.{below, reversed, virtualPit}
-use Rattle.surface.specs.Edges.{isBorder, lowerRuns}
+use Rattle.surface.specs.Edges.{isBorder, lowerRuns, upperRuns}
 use Rattle.surface.specs.Marks.{ringOf, markAt, marksOf, peaks, pits, saddles}
 use Rattle.surface.specs.Lines.{end, line, lowestOf, thalweg, ridge, daleAt, hillAt, dalesOf, hillsOf, Way, here, step, OnePiece}
 use Rattle.surface.specs.Refusals.{Verdict, lineVerdict, surveyVerdict, partsVerdict}
@@ -25,7 +25,7 @@ use Rattle.surface.proofs.ListOf.{getD-listOf, member-listOf, listOf-me
 use Rattle.surface.proofs.Grid.{row-fits, top-true}
 use Rattle.surface.proofs.Walks.{Vertex, Descent, LineFalls, line-falls, end-vertex, end-inside, end-is-stop, end-stop, pit-stop}
 use Rattle.surface.proofs.Network.{theSides, not-pit, down, up, up-post, up-keeps, end-pit, end-peak, dale-pit, pit-dale, hill-peak, peak-hill, dale-piece, hill-piece, balanced, border-dale, mark-pit, mark-peak}
-use Rattle.surface.proofs.Accepted.{Plotted, survey-plotted, line-plotted, plotted-survey, plotted-parts}
+use Rattle.surface.proofs.Accepted.{Plotted, survey-plotted, line-plotted, plotted-line, plotted-survey, plotted-parts}
 use Rattle.surface.proofs.Series.{Good, good-series}
 
 way-map : {edge : ℕ → ℕ → Type 0} {m m′ : ℕ → Type 0} → ((p : ℕ) → m p → m′ p) → {p q : ℕ} → Way edge m p q → Way edge m′ p q
@@ -236,6 +236,32 @@ module _ (rows columns : ℕ) (hs : List ℤ) (plot : Plotted rows columns hs) w
         fits = g .bound;
       })
 
+  -- every run of a saddle has its line
+  thalweg-drawn : (post run : ℕ) (list : List ℕ) → post < rows * columns → 3 ≤ markAt rows columns hs post
+      → run < length (lowerRuns (below hs) (ringOf rows columns hs) post)
+      → rows * columns + 1 ≤ length list
+      → thalwegAnswer rows columns hs post run list .code ≡ 0
+  unfolding thalwegAnswer thalweg
+  thalweg-drawn post run list h m k r =
+      let f = line-falls (down rows columns hs plot) post run h k in
+      ap (λ (v : Verdict). v .code)
+      (plotted-line rows columns hs plot (below hs) (thalweg rows columns hs post run) post run list h m k (rw (f .1) (omega (arith, f .2 .bound))))
+
+  ridge-drawn : (post run : ℕ) (list : List ℕ) → post < rows * columns → 3 ≤ markAt rows columns hs post
+      → run < length (upperRuns (below hs) (ringOf rows columns hs) post)
+      → rows * columns + 1 ≤ length list
+      → ridgeAnswer rows columns hs post run list .code ≡ 0
+  unfolding ridgeAnswer ridge
+  ridge-drawn post run list h m k r =
+      let f = line-falls (up rows columns hs plot) post run h k in
+      ap (λ (v : Verdict). v .code)
+      (plotted-line rows columns hs plot (reversed (below hs)) (ridge rows columns hs post run) post run list h m k (rw (f .1) (omega (arith, f .2 .bound))))
+
+  -- a survey's mark of a post
+  mark-at : (marks : List ℕ) (post : ℕ) → marks ≡ marksOf rows columns hs → post < rows * columns → getD marks post 0 ≡ markAt rows columns hs post
+  unfolding marksOf
+  mark-at marks post e h = ap (λ (l : List ℕ). getD l post 0) e ∙ getD-listOf (markAt rows columns hs) (rows * columns) post 0 h
+
 -- a sheet that is a survey's keeps every promise
 promised : (rows columns : ℕ) (hs : List ℤ) (calls : List Reshoot) (left : Sheet) → Good rows columns (plainAll hs calls) left → Promised rows columns hs calls left
 promised rows columns hs calls left g =
@@ -246,7 +272,11 @@ promised rows columns hs calls left g =
       fresh = λ lent h. (ap (λ a. a .code) (counts rows columns (left .heights) p lent h), fresh-marks rows columns (left .heights) p lent h ∙ sym (g .marked));
       balance = λ lent h. rw (counts rows columns (left .heights) p lent h) (balanced rows columns (left .heights) p);
       thalwegs = thalweg-falls rows columns (left .heights) p;
+      thalwegsDrawn =
+          λ post run list h m. thalweg-drawn rows columns (left .heights) p post run list h (rw (mark-at rows columns (left .heights) p (left .marks) post (g .marked) h) at m);
       ridges = ridge-rises rows columns (left .heights) p;
+      ridgesDrawn =
+          λ post run list h m. ridge-drawn rows columns (left .heights) p post run list h (rw (mark-at rows columns (left .heights) p (left .marks) post (g .marked) h) at m);
       parted = parted rows columns (left .heights) p;
     }
 

@@ -13,11 +13,14 @@ pub mod Offsets
 pub mod RingOnce
 pub mod Runs
 pub mod Signs
+pub mod Turns
 pub mod Census
 pub mod Balance
 pub mod RunMembers
+pub mod RunStarts
 pub mod Lowest
 pub mod Walks
+pub mod WalkEntries
 pub mod Pieces
 pub mod Agreement
 pub mod Locality

@@ -5,11 +5,13 @@ use native.Mathlib.Omega.{arith}
 use mathlib.Core.Path.{_≡_, refl, sym, _∙_, ap, ap₂}
 use mathlib.Core.Bool.{Bool, true, false, cond, not, _&&_, _||_}
 use mathlib.Core.List.{List, [], _∷_, _++_, List·Memᴰ}
+use lib.Dec.{eqb}
 use lib.ListN.{getD, length}
 use Rattle.surface.specs.Lists.{keep, any, all, lastOr, one}
 use Rattle.surface.specs.Plot.{virtualPit}
 use Rattle.surface.specs.Edges.{Place, members, places, ring, runs, top, bottom, first, last}
 use Rattle.surface.specs.Marks.{mark, markFor}
+use Rattle.surface.proofs.Bools.{either}
 use Rattle.surface.proofs.Order.{StrictTotal}
 use Rattle.surface.proofs.Runs.{starts, lastSide, markBy, markFor-circle, lastSide-lastOr}
 
@@ -160,3 +162,34 @@ mark-signs lower o rows columns falls p others =
     let low : ℕ → Bool = λ q. lower q p in
     rw (any-above lower o p (ring rows columns falls p) others)
     (markOfSigns-circle low _ _ _ refl (lastSide-ring rows columns falls low p true) (starts-ring rows columns falls low p))
+
+-- of two neighbouring steps round the ring at most one rises, so no ring has more than four lower runs, and a mark is from 0 to 5
+rise-twice : (a b c : Bool) → rise a b + rise b c ≤ 1
+rise-twice true true true = omega arith
+rise-twice true true false = omega arith
+rise-twice true false true = omega arith
+rise-twice true false false = omega arith
+rise-twice false true true = omega arith
+rise-twice false true false = omega arith
+rise-twice false false true = omega arith
+rise-twice false false false = omega arith
+
+pub rises-le : (g : Signs) → rises g ≤ 4
+unfolding rises
+rises-le g =
+    omega (arith, rise-twice (g .nw) (g .n) (g .ne), rise-twice (g .ne) (g .e) (g .se), rise-twice (g .se) (g .s) (g .sw), rise-twice (g .sw) (g .w) (g .nw))
+
+markBy-le : (side : Bool) (k : ℕ) → k ≤ 4 → markBy side k ≤ 5
+unfolding markBy
+markBy-le side k h = either (eqb k 0) (λ e. rw e (first side)) (λ e. rw e (either (eqb k 1) (λ i. rw i (omega arith)) (λ i. rw i (omega arith))))
+  where
+    first : (b : Bool) → cond b 1 2 ≤ 5
+    first true = omega arith
+    first false = omega arith
+
+pub mark-range : (lower : ℕ → ℕ → Bool) → StrictTotal lower → (rows columns : ℕ) (falls : ℕ → Bool) (p : ℕ)
+    → ((q : ℕ) → List·Memᴰ q (ring rows columns falls p) → q ≡ p → ⊥)
+    → mark lower (ring rows columns falls) p ≤ 5
+unfolding markOfSigns
+mark-range lower o rows columns falls p others =
+    rw (mark-signs lower o rows columns falls p others) (markBy-le _ _ (rises-le (signs rows columns falls (λ q. lower q p) p)))

@@ -137,7 +137,7 @@ module _ {n : ℕ} {lower : ℕ → ℕ → Bool} {ring : ℕ → List ℕ} {pic
   pub end-vertex : (m p : ℕ) → Vertex n p → Vertex n (end lower ring pick m p)
   end-vertex = end-inside (Vertex n) (λ p v e. next-step p v e .vertex)
 
-  end-more : (m p : ℕ) → end lower ring pick (suc m) p ≡ go-on (end lower ring pick m p)
+  pub end-more : (m p : ℕ) → end lower ring pick (suc m) p ≡ go-on (end lower ring pick m p)
   unfolding end
   end-more zero p = refl
   end-more (suc m) p = end-more m (go-on p)

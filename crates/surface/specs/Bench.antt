@@ -1,12 +1,10 @@
 -- Document 01, "Bench plots": the starred ones, all together, over the outcomes of the calls.
 use Prim.Native.Nat.{ℕ}
 use mathlib.Core.Path.{_≡_}
-use mathlib.Core.List.{List, [], _∷_, map}
+use mathlib.Core.List.{List, [], _∷_}
 use lib.IntN.{ℤ, pos, negsuc}
 use lib.ListN.{replicate, getD}
-use Rattle.surface.specs.Marks.{marksOf}
-use Rattle.surface.specs.SurveyFile.{rounded}
-use Rattle.surface.specs.Calls.{surveyAnswer, surveyMarks, thalwegAnswer, thalwegList, ridgeAnswer, ridgeList}
+use Rattle.surface.specs.Calls.{surveyAnswer, surveyMarks, thalwegAnswer, thalwegList, ridgeAnswer, ridgeList, readAnswer, readHeights}
 use Rattle.surface.specs.declared.Counts.{Counts}
 use Rattle.surface.specs.declared.Entries.{Entries}
 
@@ -25,6 +23,18 @@ star = pos 0 ∷ pos 2 ∷ pos 0 ∷ pos 2 ∷ pos 1 ∷ pos 2 ∷ pos 0 ∷ pos
 -- 1 1 1 / 1 0 1 / 1 1 1
 abbrev pub hollow : List ℤ
 hollow = pos 1 ∷ pos 1 ∷ pos 1 ∷ pos 1 ∷ pos 0 ∷ pos 1 ∷ pos 1 ∷ pos 1 ∷ pos 1 ∷ []
+
+-- a 2 by 2 file of the tenths 4, 5, 15, -5
+abbrev pub tenths : List ℕ
+tenths =
+    1
+    ∷ 0 ∷ 0 ∷ 0 ∷ 18
+    ∷ 2 ∷ 2
+    ∷ 0 ∷ 0 ∷ 0 ∷ 4
+    ∷ 0 ∷ 0 ∷ 0 ∷ 5
+    ∷ 0 ∷ 0 ∷ 0 ∷ 15
+    ∷ 255 ∷ 255 ∷ 255 ∷ 251
+    ∷ []
 
 -- lists lent: n marks that were never a survey's, n entries of a line list
 abbrev pub marks : ℕ → List ℕ
@@ -72,4 +82,5 @@ pub record Starred : Type 0 where
   pub hollowPeak : getD (surveyMarks 3 3 hollow (marks 9)) 8 9 ≡ 1
   pub hollowCounts : surveyAnswer 3 3 hollow (marks 9) ≡ counted 1 2 1
   -- tenths 4, 5, 15, -5 read as 0, 1, 2, -1
-  pub roundings : map rounded (pos 4 ∷ pos 5 ∷ pos 15 ∷ negsuc 4 ∷ []) ≡ pos 0 ∷ pos 1 ∷ pos 2 ∷ negsuc 0 ∷ []
+  pub roundings : readHeights tenths (replicate 4 (pos 7)) ≡ pos 0 ∷ pos 1 ∷ pos 2 ∷ negsuc 0 ∷ []
+  pub roundingsRead : readAnswer tenths (replicate 4 (pos 7)) ≡ record { code = 0; place = 0; rows = 2; columns = 2 }

@@ -1,4 +1,5 @@
--- The whole outcome of each call: its answer, and every lent list as it stands afterwards, accepted or refused.
+-- The whole outcome of each call: its answer, and every list that it may write as it stands afterwards, accepted or refused. (A list lent to be read
+-- cannot be written.)
 -- An accepted call answers 0, 0 and its values. A refused one answers its number and place and 0 for each value, and leaves every list.
 use Prim.Native.Nat.{ℕ, zero, suc, _+_, _*_}
 use mathlib.Core.Bool.{Bool, true, false, cond}
@@ -20,7 +21,7 @@ use Rattle.surface.specs.declared.Size.{Size}
 abbrev pub answer : Verdict → Answer
 answer v = record { code = v .code; place = v .place }
 
--- a line's entries at the front of its list, where it was accepted; later ones keep their content
+-- how many entries a line has, 0 where it was refused; and its list, with the entries at the front, where later ones keep their content
 abbrev pub lineAnswer : Verdict → List ℕ → Entries
 lineAnswer v entries = record { code = v .code; place = v .place; count = settled v (length entries) 0 }
 

@@ -9,13 +9,13 @@ use lib.IntN.{ℤ}
 use lib.ListN.{length, getD, take}
 use Rattle.surface.specs.Lists.{listOf, any, count, lastOr, one}
 use Rattle.surface.specs.Plot.{below, reversed, virtualPit}
-use Rattle.surface.specs.Edges.{Edge, throughLowest}
+use Rattle.surface.specs.Edges.{Edge, throughLowest, lowerRuns, upperRuns}
 use Rattle.surface.specs.Marks.{ringOf, marksOf}
 use Rattle.surface.specs.Lines.{fallsFrom, OnePiece}
 use Rattle.surface.specs.Calls.{surveyAnswer, surveyMarks, thalwegAnswer, thalwegList, ridgeAnswer, ridgeList, partsAnswer, partsDales, partsHills}
 use Rattle.surface.specs.Series.{Reshoot, Sheet, afterAll, Kept, plainAll}
 
--- how many vertices of n posts and the virtual pit stand in a list
+-- how many of the posts 0 to n - 1 and the virtual pit are named in a list
 unfoldable pub namesIn : ℕ → List ℕ → ℕ
 namesIn n l = count (λ w. any (λ x. eqb x w) l) (listOf (λ w. w) n) + one (any (λ x. eqb x virtualPit) l)
 
@@ -36,8 +36,8 @@ module _ (rows columns : ℕ) (hs : List ℤ) where
   abbrev pub IsPeak : ℕ → Type 0
   IsPeak p = (p < rows * columns) × (any (λ q. below hs p q) (ringOf rows columns hs p) ≡ false)
 
-  -- a line from `post`: each entry after it is lower (in the order given) than the one before, the last is an end, and a list of one entry more than
-  -- there are posts always has room for it
+  -- a line from `post`: each entry after it is lower (in the order given) than the one before, the last is an end, and there is at most one entry more
+  -- than there are posts
   pub record LineOf (lower : ℕ → ℕ → Bool) (isEnd : ℕ → Type 0) (post : ℕ) (entries : List ℕ) : Type 0 where
     pub after : List ℕ
     pub starts : entries ≡ post ∷ after
@@ -86,10 +86,20 @@ pub record Promised (rows columns : ℕ) (hs : List ℤ) (calls : List Reshoot) 
   pub thalwegs : (post run : ℕ) (list : List ℕ) → thalwegAnswer rows columns (left .heights) post run list .code ≡ 0
       → LineOf rows columns (left .heights) (below (left .heights)) (IsPit rows columns (left .heights)) post
       (take (thalwegAnswer rows columns (left .heights) post run list .count) (thalwegList rows columns (left .heights) post run list))
+  -- (every lower run of every saddle has its line: a list of one entry more than there are posts always has room for it)
+  pub thalwegsDrawn : (post run : ℕ) (list : List ℕ) → post < rows * columns → 3 ≤ getD (left .marks) post 0
+      → run < length (lowerRuns (below (left .heights)) (ringOf rows columns (left .heights)) post)
+      → rows * columns + 1 ≤ length list
+      → thalwegAnswer rows columns (left .heights) post run list .code ≡ 0
   -- every crest line rises so and ends at a peak
   pub ridges : (post run : ℕ) (list : List ℕ) → ridgeAnswer rows columns (left .heights) post run list .code ≡ 0
       → LineOf rows columns (left .heights) (reversed (below (left .heights))) (IsPeak rows columns (left .heights)) post
       (take (ridgeAnswer rows columns (left .heights) post run list .count) (ridgeList rows columns (left .heights) post run list))
+  -- (every upper run of every saddle has its line)
+  pub ridgesDrawn : (post run : ℕ) (list : List ℕ) → post < rows * columns → 3 ≤ getD (left .marks) post 0
+      → run < length (upperRuns (below (left .heights)) (ringOf rows columns (left .heights)) post)
+      → rows * columns + 1 ≤ length list
+      → ridgeAnswer rows columns (left .heights) post run list .code ≡ 0
   -- every post lies in exactly one dale and one hill; dales number the pits, hills the peaks, and each is in one piece along edges
   pub parted : (dales hills : List ℕ) → length dales ≡ rows * columns → length hills ≡ rows * columns → Parted rows columns (left .heights) dales hills
 

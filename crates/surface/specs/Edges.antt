@@ -5,13 +5,14 @@ use mathlib.Core.Bool.{Bool, true, false, cond, not, _&&_, _||_}
 use mathlib.Core.List.{List, [], _∷_, _++_}
 use lib.Dec.{T, eqb}
 use Rattle.surface.specs.Lists.{keep, filter, any, all, takeWhile, lastOr}
-use Rattle.surface.specs.Plot.{row, column, virtualPit}
+use Rattle.surface.specs.Plot.{row, column, virtualPit, reversed}
 
--- the lowest member of a list in an order
+-- the lowest of x and the members of a list, in an order
 unfoldable pub lowestOr : (ℕ → ℕ → Bool) → ℕ → List ℕ → ℕ
 lowestOr lower x [] = x
 lowestOr lower x (y ∷ l) = lowestOr lower (cond (lower y x) y x) l
 
+-- the lowest member of a list (an empty one has none; no call asks for it)
 unfoldable pub lowest : (ℕ → ℕ → Bool) → List ℕ → ℕ
 lowest lower [] = virtualPit
 lowest lower (x ∷ l) = lowestOr lower x l
@@ -118,7 +119,8 @@ module _ (rows columns : ℕ) (falls : ℕ → Bool) where
   ring p = members (places p)
 
 -- A run is a longest stretch of the ring, taken as a circle, whose members all pass the test. Here are those that start in l, in order: a run starts
--- where a member passes and the one before it, of which `before` tells, does not. `circle` is what follows l on the circle.
+-- where a member passes and the one before it, of which `before` tells, does not. `circle` is the ring
+-- once more, so that a run may go on past its end.
 unfoldable pub runsFrom : (ℕ → Bool) → Bool → List ℕ → List ℕ → List (List ℕ)
 runsFrom s before [] circle = []
 runsFrom s before (x ∷ l) circle = keep (s x && not before) (takeWhile s (x ∷ l ++ circle)) ++ runsFrom s (s x) l circle
@@ -128,6 +130,9 @@ unfoldable pub runs : (ℕ → Bool) → List ℕ → List (List ℕ)
 runs s [] = []
 runs s (x ∷ l) = cond (all s (x ∷ l)) ((x ∷ l) ∷ []) (runsFrom s (s (lastOr x l)) (x ∷ l) (x ∷ l))
 
--- the runs of p's ring below p; those above p are these in the reversed order
+-- the runs of p's ring below p, and those above it, which are the lower ones in the reversed order
 abbrev pub lowerRuns : (ℕ → ℕ → Bool) → (ℕ → List ℕ) → ℕ → List (List ℕ)
 lowerRuns lower ringOf p = runs (λ q. lower q p) (ringOf p)
+
+abbrev pub upperRuns : (ℕ → ℕ → Bool) → (ℕ → List ℕ) → ℕ → List (List ℕ)
+upperRuns lower = lowerRuns (reversed lower)

@@ -1,5 +1,17 @@
 -- Document 01's definitions, a file for each of its sections, in its order. These files are what a reader must believe; the laws are in proofs/.
--- (The series of re-shoots speaks of refusals, so its file comes after theirs.)
+-- (Lists, Calls and Demand are no sections of it. The series speaks of refusals, and the lister of a bench plot, so their files come after those.)
+--
+-- To read them without knowing the language:
+--     f : A → B, and below it f x = ..       a definition with its type; `abbrev`, `unfoldable` and `pub` may be skipped
+--     λ x. ..    let x = .. in ..            a function; a name for a value
+--     cond b x y                             x where b is true, else y;  &&, ||, not: of true and false
+--     leb a b   ltb a b   eqb a b   ltZ a b  the tests a ≤ b, a < b, a = b of natural numbers, and a < b of whole numbers
+--     pos n     negsuc n                     the whole numbers n and -(n + 1); a - b of natural numbers is 0 where b is greater
+--     []   x ∷ l   l ++ m   length           lists; x ∷ binds closer than ++
+--     getD l i d   set l i x   replicate n x element i of l, or d past its end; l with x at place i; x, n times
+--     take n l   drop n l   map f l          the first n elements; the others; f of each
+--     A × B   A ⊎ B   A ↔ B   A → ⊥   x ≡ y  and; or; if and only if; not; equal.  T b: b is true.  Unit {0}: no condition
+--     List·Memᴰ x l                          x is an element of l
 pub mod Lists
 pub mod Plot
 pub mod Edges

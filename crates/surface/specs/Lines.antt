@@ -17,6 +17,7 @@ unfoldable pub fallsFrom : (ℕ → ℕ → Bool) → ℕ → List ℕ → Bool
 fallsFrom lower x [] = true
 fallsFrom lower x (y ∷ l) = lower y x && fallsFrom lower y l
 
+-- `pick` chooses one of a post's lower neighbours; it may look at the post, which document 01's rule does not
 module _ (lower : ℕ → ℕ → Bool) (ring : ℕ → List ℕ) (pick : ℕ → List ℕ → ℕ) where
   -- a walk ends at the virtual pit, and at a post that has no lower neighbour: downward a pit, upward (where it never meets the virtual pit) a peak
   unfoldable pub isEnd : ℕ → Bool
@@ -26,7 +27,7 @@ module _ (lower : ℕ → ℕ → Bool) (ring : ℕ → List ℕ) (pick : ℕ �
   unfoldable pub next : ℕ → ℕ
   next p = cond (isEnd p) p (pick p (filter (λ q. lower q p) (ring p)))
 
-  -- p, then next until an end, in at most n steps
+  -- p, then next until an end, in at most n steps. Each step is lower, so no post comes twice, and as many steps as there are posts reach the end.
   unfoldable pub walk : ℕ → ℕ → List ℕ
   walk zero p = p ∷ []
   walk (suc n) p = p ∷ cond (isEnd p) [] (walk n (next p))
@@ -48,7 +49,7 @@ pub data Way (edge : ℕ → ℕ → Type 0) (member : ℕ → Type 0) : ℕ →
 abbrev pub OnePiece : (ℕ → ℕ → Type 0) → (ℕ → Type 0) → Type 0
 OnePiece edge member = (p q : ℕ) → member p → member q → Way edge member p q
 
--- document 01's choice: the lowest downward, the highest upward
+-- document 01's choice: the lowest; upward the highest, which is the lowest in the reversed order
 abbrev pub lowestOf : (ℕ → ℕ → Bool) → ℕ → List ℕ → ℕ
 lowestOf lower p members = lowest lower members
 

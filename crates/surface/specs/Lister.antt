@@ -7,8 +7,8 @@ use lib.Dec.{ltb, eqb}
 use lib.IntN.{ℤ, pos}
 use lib.ListN.{length, getD, take, replicate}
 use Rattle.surface.specs.Lists.{listOf, lastOr}
-use Rattle.surface.specs.Plot.{virtualPit, below, reversed}
-use Rattle.surface.specs.Edges.{lowerRuns}
+use Rattle.surface.specs.Plot.{virtualPit, below}
+use Rattle.surface.specs.Edges.{lowerRuns, upperRuns}
 use Rattle.surface.specs.Marks.{ringOf, markAt, marksOf, peaks, pits, saddles}
 use Rattle.surface.specs.Lines.{thalweg, ridge}
 use Rattle.surface.specs.SurveyFile.{fileOf}
@@ -55,7 +55,7 @@ module _ (rows columns : ℕ) (hs : List ℤ) where
   unfoldable pub saddleLines : ℕ → List ℕ
   saddleLines p =
       joined (listOf (λ run. lineText 84 p run (thalweg rows columns hs p run)) (length (lowerRuns (below hs) (ringOf rows columns hs) p)))
-      ++ joined (listOf (λ run. lineText 82 p run (ridge rows columns hs p run)) (length (lowerRuns (reversed (below hs)) (ringOf rows columns hs) p)))
+      ++ joined (listOf (λ run. lineText 82 p run (ridge rows columns hs p run)) (length (upperRuns (below hs) (ringOf rows columns hs) p)))
 
   unfoldable pub postLines : ℕ → List ℕ
   postLines p = cond (ltb (markAt rows columns hs p) 3) [] (saddleLines p)

@@ -9,7 +9,7 @@ use Rattle.surface.specs.Lists.{listOf, any, count, total}
 use Rattle.surface.specs.Plot.{row, column, below, reversed}
 use Rattle.surface.specs.Edges.{ring, throughLowest, lowerRuns}
 
--- 1 peak: no neighbour is above. 2 pit: no neighbour is below. 0 ordinary: one lower run. 3, 4, 5: a saddle of 2, 3, 4 lower runs
+-- 1 peak: no neighbour is above. 2 pit: no neighbour is below. 0 ordinary: one lower run and some neighbour above. 3, 4, 5: a saddle of 2, 3, 4 lower runs
 unfoldable pub markFor : Bool → Bool → ℕ → ℕ
 markFor someAbove someBelow k = cond (not someAbove) 1 (cond (not someBelow) 2 (cond (eqb k 1) 0 (k + 1)))
 

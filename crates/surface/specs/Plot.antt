@@ -22,6 +22,7 @@ column columns p = p % columns
 abbrev pub isHeight : ℤ → Bool
 isHeight z = not (ltZ z (negsuc 999999)) && not (ltZ (pos 1000000) z)
 
+-- the height of post p (0 past the list, where there is no post)
 abbrev pub height : List ℤ → ℕ → ℤ
 height hs p = getD hs p (pos 0)
 

@@ -39,7 +39,7 @@ Kept rows columns s (c ∷ cs) =
     (reshootAnswer (c .rows) (c .columns) (s .heights) (s .marks) (c .post) (c .new) .code ≡ 0 → (c .rows ≡ rows) × (c .columns ≡ columns))
     × Kept rows columns (after s c) cs
 
--- the plain list of heights kept next to it: as many marks stand for the lists lent
+-- the plain list of heights kept next to it: it and as many marks stand for the two lists lent (of marks only the number is looked at)
 unfoldable pub plain : List ℤ → Reshoot → List ℤ
 plain hs c =
     settled (reshootVerdict (c .rows) (c .columns) hs (replicate (length hs) 0) (c .post) (c .new)) (set hs (c .post) (c .new)) hs

@@ -1,9 +1,11 @@
 // The calls for C: lists come as a pointer and a length, answers go back as structs of numbers. include/surface_network.h declares them.
 use surface::Answer;
 use surface::Counts;
+use surface::Entries;
+use surface::Next;
 use surface::Size;
 ghost use mathlib.Core.Path.{_≡_};
-ghost use Rattle.surface.specs.Calls.{surveyAnswer, surveyMarks, reshootAnswer, reshootHeights, reshootMarks, readAnswer, readHeights, writeAnswer, writeFile};
+ghost use Rattle.surface.specs.Calls.{surveyAnswer, surveyMarks, reshootAnswer, reshootHeights, reshootMarks, nextDownAnswer, nextUpAnswer, thalwegAnswer, thalwegList, ridgeAnswer, ridgeList, partsAnswer, partsDales, partsHills, readAnswer, readHeights, writeAnswer, writeFile};
 
 #[no_mangle]
 pub extern "C" fn sn_survey(rows: u32, columns: u32, heights: &[i32], marks: &mut [u8]) -> Counts
@@ -27,6 +29,65 @@ pub extern "C" fn sn_reshoot(
     ensures { λ _. ⌜ now (marks .exit) ≡ reshootMarks rows columns (now (heights .entry)) (now (marks .entry)) post height ⌝ }
 {
     survey::reshoot(rows, columns, heights, marks, post, height)
+}
+
+#[no_mangle]
+pub extern "C" fn sn_next_down(rows: u32, columns: u32, heights: &[i32], post: u32) -> Next
+    ensures { λ r. ⌜ r ≡ nextDownAnswer rows columns (now (heights .entry)) post ⌝ }
+{
+    lines::next_down(rows, columns, heights, post)
+}
+
+#[no_mangle]
+pub extern "C" fn sn_next_up(rows: u32, columns: u32, heights: &[i32], post: u32) -> Next
+    ensures { λ r. ⌜ r ≡ nextUpAnswer rows columns (now (heights .entry)) post ⌝ }
+{
+    lines::next_up(rows, columns, heights, post)
+}
+
+#[no_mangle]
+pub extern "C" fn sn_thalweg(
+    rows: u32,
+    columns: u32,
+    heights: &[i32],
+    post: u32,
+    run: u32,
+    line: &mut [u16],
+) -> Entries
+    ensures { λ r. ⌜ r ≡ thalwegAnswer rows columns (now (heights .entry)) post run (now (line .entry)) ⌝ }
+    ensures { λ _. ⌜ now (line .exit) ≡ thalwegList rows columns (now (heights .entry)) post run (now (line .entry)) ⌝ }
+{
+    lines::thalweg(rows, columns, heights, post, run, line)
+}
+
+#[no_mangle]
+pub extern "C" fn sn_ridge(
+    rows: u32,
+    columns: u32,
+    heights: &[i32],
+    post: u32,
+    run: u32,
+    line: &mut [u16],
+) -> Entries
+    ensures { λ r. ⌜ r ≡ ridgeAnswer rows columns (now (heights .entry)) post run (now (line .entry)) ⌝ }
+    ensures { λ _. ⌜ now (line .exit) ≡ ridgeList rows columns (now (heights .entry)) post run (now (line .entry)) ⌝ }
+{
+    lines::ridge(rows, columns, heights, post, run, line)
+}
+
+#[no_mangle]
+pub extern "C" fn sn_dales_and_hills(
+    rows: u32,
+    columns: u32,
+    heights: &[i32],
+    dales: &mut [u16],
+    hills: &mut [u16],
+) -> Answer
+    ensures { λ r. ⌜ r ≡ partsAnswer rows columns (now (heights .entry)) (now (dales .entry)) (now (hills .entry)) ⌝ }
+    ensures { λ _. ⌜ now (dales .exit) ≡ partsDales rows columns (now (heights .entry)) (now (dales .entry)) (now (hills .entry)) ⌝ }
+    ensures { λ _. ⌜ now (hills .exit) ≡ partsHills rows columns (now (heights .entry)) (now (dales .entry)) (now (hills .entry)) ⌝ }
+{
+    parts::dales_and_hills(rows, columns, heights, dales, hills)
 }
 
 #[no_mangle]

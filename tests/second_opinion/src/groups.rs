@@ -3,6 +3,7 @@
 mod bench_plots;
 mod bounds;
 mod files;
+pub mod lister;
 mod refusals;
 mod series;
 mod whole_plots;

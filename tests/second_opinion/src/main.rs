@@ -1,8 +1,11 @@
 //! Compares the library, through its C calls, with an implementation written
 //! apart from it, from document 01 alone.
 //!
-//!     second_opinion [--long] [--seed N] [--stop]
+//!     second_opinion [--long] [--seed N] [--stop] [--lister PROGRAM]
+//!     second_opinion --list <FILE
 //!
+//! With --lister it compares the listing program instead; with --list it prints its
+//! own listing of a survey file.
 //! --long tries some twenty times as much, from another seed each time, unless one
 //! is given; --stop ends at the first failure.
 //!
@@ -12,22 +15,39 @@
 mod call;
 mod groups;
 mod library;
+mod listing;
 mod opinion;
 mod plots;
 mod surface;
 mod tester;
 
+use std::io::Read;
+
 fn main() {
     let arguments: Vec<String> = std::env::args().skip(1).collect();
     let given = |name: &str| arguments.iter().any(|a| a == name);
+    let after = |name: &str| arguments.iter().skip_while(|a| *a != name).nth(1);
+    if given("--list") {
+        let mut input = Vec::new();
+        std::io::stdin().read_to_end(&mut input).expect("standard input");
+        print!("{}", listing::listing(&input));
+        return;
+    }
     let (long, stop) = (given("--long"), given("--stop"));
-    let seed = match arguments.iter().position(|a| a == "--seed") {
-        Some(i) => arguments[i + 1].parse().expect("--seed takes a number"),
+    let seed = match after("--seed") {
+        Some(seed) => seed.parse().expect("--seed takes a number"),
         None if long => std::time::UNIX_EPOCH.elapsed().unwrap().as_secs(),
         None => 1,
     };
     println!("seed {seed}");
     let mut tester = tester::Tester::new(stop);
-    groups::all(&mut tester, &mut plots::Chance(seed), long);
+    let mut chance = plots::Chance(seed);
+    match after("--lister") {
+        Some(lister) => {
+            let times = if long { 20 } else { 1 };
+            groups::lister::lister(&mut tester, lister, &mut chance, times);
+        }
+        None => groups::all(&mut tester, &mut chance, long),
+    }
     std::process::exit(if tester.finish() { 0 } else { 1 });
 }

@@ -71,7 +71,7 @@ impl Plot<'_> {
         best
     }
 
-    fn extreme(&self, way: Way, vertices: &[usize]) -> usize {
+    pub fn extreme(&self, way: Way, vertices: &[usize]) -> usize {
         match way {
             Way::Down => self.lowest(vertices),
             Way::Up => self.highest(vertices),

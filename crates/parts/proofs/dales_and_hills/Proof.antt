@@ -1,5 +1,4 @@
 -- `parts::dales_and_hills` meets its contract: a refusal is handed on, and the ends of the paths that the next posts make are the names asked for.
-use Prim.Native.Nat.{ℕ}
 use mathlib.Core.Path.{_≡_, sym, _∙_, ap}
 use mathlib.Core.Bool.{true, false}
 use Rattle.surface.specs.Refusals.{partsVerdict}

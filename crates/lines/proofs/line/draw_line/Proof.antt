@@ -14,21 +14,30 @@ use Rattle.lines.proofs.line.draw_line.Tie as tie
 placed-requires : tie.Need-placed-requires
 placed-requires c κs = search needs
 
+refused-requires : tie.Need-refused-requires
+refused-requires c κs = search needs
+
 returns : tie.Need-returns
 returns c =
-    let p = c .before .before in
+    let i = c .before in
+    let p = i .before .before in
     let a = p .before .before .args in
-    not-placed (a .rows) (a .columns) (a .heights .now) (a .up) (a .post) (a .run) (a .line .now) (p .placed .ensures) (c .if1 .taken)
+    rw (c .refused .ensures) (not-placed (p .placed .ensures) (a .up) (a .run) (a .line .now) (i .if1 .taken))
 
 start-of-requires : tie.Need-start-of-requires
 start-of-requires c κs = c .before .before .placed .ensures .fits (c .if1 .left)
 
+refused-requires-2 : tie.Need-refused-requires-2
+refused-requires-2 c κs = search needs
+
 returns-2 : tie.Need-returns-2
 returns-2 c =
-    let s = c .before .before in
+    let i = c .before in
+    let s = i .before .before in
     let p = s .before .before .before in
     let a = p .before .before .args in
-    not-started (a .rows) (a .columns) (a .heights .now) (a .up) (a .post) (a .run) (a .line .now) (p .placed .ensures) (s .before .if1 .left) (s .start-of .ensures) (c .if2 .taken)
+    rw (c .refused2 .ensures)
+    (not-started (p .placed .ensures) (a .up) (a .run) (a .line .now) (s .before .if1 .left) (s .start-of .ensures) (i .if2 .taken))
 
 follow-requires : tie.Need-follow-requires
 follow-requires c κs =
@@ -52,13 +61,20 @@ low c =
 add-count : tie.Need-add-count
 add-count c = omega (arith, low (c .before))
 
+refused-requires-3 : tie.Need-refused-requires-3
+refused-requires-3 c κs = search needs
+
 returns-3 : tie.Need-returns-3
 returns-3 c =
-    let f = c .before .before in
+    let i = c .before in
+    let f = i .before .before in
     let s = f .before .before .before in
     let p = s .before .before .before in
     let a = p .before .before .args in
-    too-long (a .rows) (a .columns) (a .heights .now) (a .up) (a .post) (a .run) (a .line .now) (p .placed .ensures) (s .before .if1 .left) (s .start-of .ensures) (f .before .if2 .left) _ (ap (λ (n : ℕ). 1 + n) (entries f)) (c .if3 .taken)
+    rw (c .refused3 .ensures)
+    (too-long (p .placed .ensures) (a .up) (a .run) (a .line .now) (s .before .if1 .left) (s .start-of .ensures) (f .before .if2 .left) _
+    (ap (λ (n : ℕ). 1 + n) (entries f))
+    (i .if3 .taken))
 
 write-entries-requires : tie.Need-write-entries-requires
 write-entries-requires c κs =
@@ -67,8 +83,8 @@ write-entries-requires c κs =
     let fits = s .before .before .before .placed .ensures .fits (s .before .if1 .left) in
     (fits .0, fits .1, s .start-of .ensures .vertex (f .before .if2 .left), omega arith, c .before .if3 .left)
 
-cast-t20 : tie.Need-cast-t20
-cast-t20 c = omega (arith, low (c .before .before .before .before .before .before))
+cast-t21 : tie.Need-cast-t21
+cast-t21 c = omega (arith, low (c .before .before .before .before .before .before))
 
 same-length : tie.Need-same-length
 same-length c = search needs
@@ -80,20 +96,24 @@ returns-4 c =
     let s = f .before .before .before in
     let p = s .before .before .before in
     let a = p .before .before .args in
-    drawn (a .rows) (a .columns) (a .heights .now) (a .up) (a .post) (a .run) (a .line .now) (p .placed .ensures) (s .before .if1 .left) (s .start-of .ensures) (f .before .if2 .left) _ (ap (λ (n : ℕ). 1 + n) (entries f)) (e .if3 .left) _ (c .before .before .write-entries .ensures)
+    drawn (p .placed .ensures) (a .up) (a .run) (a .line .now) (s .before .if1 .left) (s .start-of .ensures) (f .before .if2 .left)
+    _ (ap (λ (n : ℕ). 1 + n) (entries f)) (e .if3 .left) _ (c .before .before .write-entries .ensures)
 
 pub draw-line-spec : {M : Type 1} → statement M
 draw-line-spec =
     tie.close
     (tie.spec
     placed-requires
+    refused-requires
     returns
     start-of-requires
+    refused-requires-2
     returns-2
     follow-requires
     add-count
+    refused-requires-3
     returns-3
     write-entries-requires
-    cast-t20
+    cast-t21
     same-length
     returns-4)

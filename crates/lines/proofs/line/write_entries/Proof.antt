@@ -1,6 +1,6 @@
 -- The loop's invariant: the first i entries are written, the others are as they were, and the walk stands at the next entry.
-use Prim.Native.Nat.{ℕ, _+_, _-_, _*_, _≤_, _<_}
-use mathlib.Core.Path.{_≡_, refl, sym, _∙_, ap}
+use Prim.Native.Nat.{_-_, _*_, _≤_}
+use mathlib.Core.Path.{_≡_, refl, sym, _∙_}
 use native.Mathlib.Omega.{arith}
 use lib.ListN.{length, set, length-set}
 use lib.Seq.{drop-set-lt}
@@ -75,14 +75,14 @@ loop-again c =
     let s = l .before .before in
     let v = l .loop .inv in
     let i = l .loop .i in
-    let hs = s .args .heights .now in
-    let from = s .args .from in
-    let at : l .loop .at .post ≡ entryOf (s .args .rows) (s .args .columns) hs (from .up) (s .args .p) (from .post) i = v .4 ∙ sym (entry-after (s .args .rows) (s .args .columns) hs (from .up) (s .args .p) (from .post) i (v .0)) in (
+    let a = s .args in
+    let from = a .from in
+    let at = v .4 ∙ sym (entry-after (a .rows) (a .columns) (a .heights .now) (from .up) (a .p) (from .post) i (v .0)) in (
       omega arith,
       omega arith,
       rw (c .next .ensures) (vertex-next (s .pre .0) (l .loop .at .up) (l .loop .at .post) (v .2)),
       rw (c .next .ensures) (v .3),
-      rw (c .next .ensures, v .3, v .4) (after-more (s .args .rows) (s .args .columns) hs (from .up) (s .args .p) (from .post) i (v .0)),
+      rw (c .next .ensures, v .3, v .4) (after-more (s .pre .0) (from .up) (from .post) i (v .0)),
       filled-more _ _ i (l .loop .line) _ (omega (arith, long l, s .pre .4)) (v .5) at,
     )
 

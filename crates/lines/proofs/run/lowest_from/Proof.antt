@@ -9,10 +9,11 @@ use borrow.Author.Tests.{not-true, not-false}
 use lib.ListN.{length, getD, drop}
 use Rattle.surface.specs.Lists.{takeWhile}
 use Rattle.surface.specs.Edges.{lowest, lowestOr}
+use Rattle.surface.proofs.RunStarts.{while-stop, while-end}
 use Rattle.surface.proofs.Walks.{Vertex}
 use Rattle.plot.specs.Scan.{toward}
 use Rattle.plot.specs.Rings.{held}
-use Rattle.lines.proofs.Running.{long, twice-long, twice-vertex, getD-front, while-stop, while-end, low-first, low-more, low-none}
+use Rattle.lines.proofs.Running.{long, twice-long, twice-vertex, lower-vertex, getD-front, low-first, low-more, low-none}
 use Rattle.lines.proofs.run.lowest_from.Statement.{statement}
 use Rattle.lines.proofs.run.lowest_from.Tie as tie
 
@@ -39,10 +40,6 @@ low : {b : Bool} (c : tie.After-is-lower Inv-loop μ-loop) → c .is-lower .resu
     → let s = c .before .before .before .before .before .before in
     toward (s .args .heights .now) (s .args .up) (getD (held (s .args .ring) ++ held (s .args .ring)) (c .before .before .before .loop .j) 0) (s .args .p) ≡ b
 low c e = rw (← (c .before .member-at2 .ensures)) (sym (c .is-lower .ensures) ∙ e)
-
-lower-vertex : (b : Bool) {n : ℕ} (x y : ℕ) → Vertex n x → Vertex n y → Vertex n (cond b y x)
-lower-vertex true x y v w = w
-lower-vertex false x y v w = v
 
 member-at-requires : tie.Need-member-at-requires Inv-loop μ-loop
 member-at-requires c κs = let w = c .before .pre .0 in (w .low, w .size, omega (arith, c .before .pre .1))
@@ -96,13 +93,13 @@ loop-again : tie.Need-loop-again Inv-loop μ-loop
 loop-again c =
     let i = c .before .before .before .before in
     let l = i .before in
-    let w = l .before .before .before .pre .0 in
-    let q = c .before .before .before .member-at2 .ensures in
-    let v : Vertex (length (l .before .before .before .args .heights .now)) (c .before .before .before .member-at2 .result) = rw q (twice-vertex w (l .loop .j) (i .loop-test .taken)) in (
+    let s = l .before .before .before in
+    let m = c .before .before .before .member-at2 in
+    let v : Vertex (length (s .args .heights .now)) (m .result) = rw (m .ensures) (twice-vertex (s .pre .0) (l .loop .j) (i .loop-test .taken)) in (
       omega arith,
       omega arith,
-      rw (c .lower-of .ensures) (lower-vertex (toward (l .before .before .before .args .heights .now) (l .before .before .before .args .up) (c .before .before .before .member-at2 .result) (l .loop .best)) (l .loop .best) (c .before .before .before .member-at2 .result) (l .loop .inv .2) v),
-      rw (c .lower-of .ensures, q)
+      rw (c .lower-of .ensures) (lower-vertex (toward (s .args .heights .now) (s .args .up)) (l .loop .best) (m .result) (l .loop .inv .2) v),
+      rw (c .lower-of .ensures, m .ensures)
           (low-more _ _ _ (l .loop .best) (l .loop .j) (inside i) (low (c .before .before) (not-false _ (c .before .if1 .left))) ∙ l .loop .inv .3),
     )
 

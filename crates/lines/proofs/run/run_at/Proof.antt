@@ -1,6 +1,6 @@
 -- The loop's invariant: run number `run` of the ring is the one to be found from place i on after `left` others.
 use Prim.Native.Nat.{ℕ, _+_, _-_, _≤_, _<_}
-use mathlib.Core.Path.{_≡_, sym, _∙_}
+use mathlib.Core.Path.{_≡_, _∙_}
 use mathlib.Core.Logic.{inl}
 use mathlib.Core.Bool.{Bool, not, _&&_}
 use mathlib.Core.List.{_++_}

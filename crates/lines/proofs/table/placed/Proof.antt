@@ -1,5 +1,5 @@
 -- Return by return.
-use mathlib.Core.Path.{_≡_, refl}
+use mathlib.Core.Path.{refl}
 use native.Mathlib.Omega.{arith}
 use Rattle.plot.specs.Limits.{Sized}
 use Rattle.plot.proofs.Round.{few}

@@ -1,6 +1,5 @@
 -- The mark tells a saddle; the place of the run's first member tells whether there is such a run.
-use Prim.Native.Nat.{_≤_, _<_}
-use mathlib.Core.Path.{_≡_}
+use Prim.Native.Nat.{_<_}
 use native.Mathlib.Omega.{arith}
 use lib.ListN.{length}
 use Rattle.surface.specs.Marks.{ringOf, markAt}

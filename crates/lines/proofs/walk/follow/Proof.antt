@@ -1,6 +1,6 @@
 -- The loop's invariant: the walk ends where it would have ended from its start, and what was counted and what is to come make its entries.
 -- The measure is the rank in the height order, which falls at every step.
-use Prim.Native.Nat.{ℕ, _*_}
+use Prim.Native.Nat.{_*_}
 use mathlib.Core.Path.{_≡_, sym, _∙_, ap}
 use native.Mathlib.Omega.{arith}
 use Rattle.surface.proofs.Order.{rank}

@@ -1,9 +1,7 @@
 -- `parts::fill::next_at` meets its contract, direction by direction.
-use mathlib.Core.Path.{_≡_, sym, _∙_, ap}
-use mathlib.Core.Bool.{Bool, true, false}
+use mathlib.Core.Bool.{true, false}
 use native.Mathlib.Omega.{arith}
 use borrow.Author.Needs.{needs}
-use Rattle.parts.specs.Nexts.{nextBy}
 use Rattle.parts.proofs.Descents.{next-fits}
 use Rattle.parts.proofs.fill.next_at.Statement.{statement}
 use Rattle.parts.proofs.fill.next_at.Tie as tie

@@ -1,5 +1,5 @@
 -- `parts::fill::next_rows` meets its contract. The loop's invariant: the rows above row r are filled, and the diagonals just above it are told.
-use Prim.Native.Nat.{ℕ, _+_, _-_, _*_, _≤_, _<_}
+use Prim.Native.Nat.{ℕ, _+_, _-_, _*_, _≤_}
 use native.Mathlib.Omega.{arith}
 use native.Mathlib.Nat.{one-mul, add-mul}
 use mathlib.Core.Path.{_≡_, refl, _∙_, ap}
@@ -84,21 +84,9 @@ slice-aggregate-next-row-2 c = search needs
 
 next-row-requires : tie.Need-next-row-requires Inv-loop μ-loop
 next-row-requires c κs =
-    let f = c .before .before .before .before in
+    let f = c .before .before .before .before .before in
     let l = f .before .before .before in
-    (row f, l .loop .inv .2 ∙ start l .pre .1)
-
-slice-aggregate-next-row-3 : tie.Need-slice-aggregate-next-row-3 Inv-loop μ-loop
-slice-aggregate-next-row-3 c = search needs
-
-slice-aggregate-next-row-4 : tie.Need-slice-aggregate-next-row-4 Inv-loop μ-loop
-slice-aggregate-next-row-4 c = search needs
-
-next-row-requires-2 : tie.Need-next-row-requires-2 Inv-loop μ-loop
-next-row-requires-2 c κs =
-    let f = c .before .before .before .before .before .before .before .before .before .before in
-    let l = f .before .before .before in
-    (row f, l .loop .inv .3 ∙ start l .pre .2)
+    (row f, l .loop .inv .2 ∙ start l .pre .1, l .loop .inv .3 ∙ start l .pre .2)
 
 add-r : tie.Need-add-r Inv-loop μ-loop
 add-r c = omega arith
@@ -108,9 +96,8 @@ loop-less c = omega arith
 
 loop-again : tie.Need-loop-again Inv-loop μ-loop
 loop-again c =
-    let u = c .before .before in
-    let d = u .before .before .before .before .before .before in
-    let f = d .before .before .before .before .before in
+    let n = c .before .before .before .before in
+    let f = n .before .before .before .before .before .before in
     let l = f .before .before .before in
     let a = start l .args in
     let k = a .columns in
@@ -121,13 +108,13 @@ loop-again c =
     rw e (
       omega arith,
       omega arith,
-      d .next-row .kept .1 .1 .1 .1 .1 .1 .1 .0 ∙ l .loop .inv .2,
-      u .next-row2 .kept .1 .1 .1 .1 .1 .1 .1 .0 ∙ l .loop .inv .3,
+      n .next-row .kept .1 .1 .1 .1 .1 .1 .0 ∙ l .loop .inv .2,
+      n .next-row .kept .1 .1 .1 .1 .1 .1 .1 .0 ∙ l .loop .inv .3,
       w,
       w,
       f .falls-row2 .ensures,
-      stores-join _ k (r * k - k) (r * k) k (r * k) (a .down .now) _ _ (l .loop .inv .7) (d .next-row .ensures) (omega arith) (omega arith),
-      stores-join _ k (r * k - k) (r * k) k (r * k) (a .up .now) _ _ (l .loop .inv .8) (u .next-row2 .ensures) (omega arith) (omega arith),
+      stores-join _ k (r * k - k) (r * k) k (r * k) (a .down .now) _ _ (l .loop .inv .7) (n .next-row .ensures .0) (omega arith) (omega arith),
+      stores-join _ k (r * k - k) (r * k) k (r * k) (a .up .now) _ _ (l .loop .inv .8) (n .next-row .ensures .1) (omega arith) (omega arith),
     )
 
 same-length : tie.Need-same-length Inv-loop μ-loop
@@ -162,9 +149,6 @@ next-rows-spec =
     slice-aggregate-next-row
     slice-aggregate-next-row-2
     next-row-requires
-    slice-aggregate-next-row-3
-    slice-aggregate-next-row-4
-    next-row-requires-2
     add-r
     loop-less
     loop-again

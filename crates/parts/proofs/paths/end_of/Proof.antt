@@ -1,10 +1,9 @@
 -- `parts::paths::end_of` meets its contract. The loop's invariant: the path from e ends where that from p does. The measure: the steps left.
 use Prim.Native.Nat.{_<_}
 use native.Mathlib.Omega.{arith}
-use mathlib.Core.Path.{_≡_, sym, _∙_, ap}
-use mathlib.Core.List.{List}
+use mathlib.Core.Path.{_≡_, sym, _∙_}
 use lib.ListN.{length}
-use Rattle.parts.specs.Paths.{endIn, Ends}
+use Rattle.parts.specs.Paths.{endIn}
 use Rattle.parts.proofs.Shorter.{stepsIn, outside, after-stays, entry, shorter-none, read-end, read-nearer}
 use Rattle.parts.proofs.paths.end_of.Statement.{statement}
 use Rattle.parts.proofs.paths.end_of.Tie as tie
@@ -24,7 +23,7 @@ shared-slice-read-e c = omega arith
 loop-holds : tie.Need-loop-holds Inv-loop μ-loop
 loop-holds c =
     let a = c .before .args in
-    (omega (arith, c .shared-slice-known .given (a .p)), read-end (c .before .pre .0) (shorter-none _) (a .p) (c .before .pre .1))
+    (omega (arith, c .shared-slice-known .given (a .p)), read-end (shorter-none _) (a .p) (c .before .pre .0) (c .before .pre .1))
 
 cast-i : tie.Need-cast-i Inv-loop μ-loop
 cast-i c = omega arith
@@ -39,12 +38,12 @@ loop-less : tie.Need-loop-less Inv-loop μ-loop
 loop-less c =
     let l = c .before .before .before in
     let s = l .before .before in
-    read-nearer (s .pre .0) (shorter-none _) (l .loop .e) (record { inside = c .before .before .if1 .left; moves = λ k. c .if2 .left (entry (s .args .list .now) _ 0 _ (c .before .before .if1 .left) ∙ k) })
+    read-nearer (shorter-none _) (l .loop .e) (s .pre .0) (record { inside = c .before .before .if1 .left; moves = λ k. c .if2 .left (entry (s .args .list .now) _ 0 _ (c .before .before .if1 .left) ∙ k) })
 
 loop-again : tie.Need-loop-again Inv-loop μ-loop
 loop-again c =
     let l = c .before .before .before in
-    (omega (arith, c .before .shared-slice-known2 .given (l .loop .e)), read-end (l .before .before .pre .0) (shorter-none _) (l .loop .e) (c .before .before .if1 .left) ∙ l .loop .inv .1)
+    (omega (arith, c .before .shared-slice-known2 .given (l .loop .e)), read-end (shorter-none _) (l .loop .e) (l .before .before .pre .0) (c .before .before .if1 .left) ∙ l .loop .inv .1)
 
 returns : tie.Need-returns Inv-loop μ-loop
 returns c =

@@ -2,6 +2,7 @@
 use Prim.Native.Nat.{ℕ, _+_, _-_, _≤_, _<_}
 use native.Mathlib.Omega.{arith}
 use mathlib.Core.Path.{_≡_, refl, sym, _∙_}
+use borrow.Author.Needs.{needs}
 use lib.ListN.{length}
 use lib.Seq.{ext-getD}
 use Rattle.surface.specs.Lists.{listOf}
@@ -22,8 +23,13 @@ Inv-loop list₀ p₀ list p =
 abbrev μ-loop : tie.MeasureT-loop
 μ-loop list₀ p₀ list p = length list - p
 
+skip-ahead-requires : tie.Need-skip-ahead-requires Inv-loop μ-loop
+skip-ahead-requires c κs = search needs
+
 loop-holds : tie.Need-loop-holds Inv-loop μ-loop
-loop-holds c = (omega arith, refl, c .before .pre, λ q. refl, λ q h. absurd (omega arith))
+loop-holds c =
+    let k = c .before .before in
+    (omega arith, refl, shorter-ends (k .before .before .before .pre) (k .skip-ahead .ensures), λ q. refl, λ q h. absurd (omega arith))
 
 end-of-requires : tie.Need-end-of-requires Inv-loop μ-loop
 end-of-requires c κs = (c .before .before .loop .inv .2, c .before .loop-test .taken)
@@ -52,18 +58,22 @@ loop-again c =
     )
 
 same-length : tie.Need-same-length Inv-loop μ-loop
-same-length c = c .before .loop .inv .1
+same-length c = c .before .loop .inv .1 ∙ c .before .before .before .before .skip-ahead .ensures .size
 
 returns : tie.Need-returns Inv-loop μ-loop
 returns c =
     let l = c .before .loop in
-    let was = c .before .before .before .args .list .now in
-    ext-getD 0 (l .list) (listOf (endIn was) (length was)) (l .inv .1 ∙ sym (length-listOf (endIn was) (length was)))
+    let k = c .before .before .before .before in
+    let start = k .before .before .before in
+    let was = start .args .list .now in
+    let short = k .skip-ahead .ensures in
+    ext-getD 0 (l .list) (listOf (endIn was) (length was)) (l .inv .1 ∙ short .size ∙ sym (length-listOf (endIn was) (length was)))
     (λ q h.
     entry (l .list) q 0 q h
     ∙ l .inv .4 q (omega arith)
     ∙ l .inv .3 q
-    ∙ sym (getD-listOf (endIn was) (length was) q 0 (omega arith)))
+    ∙ shorter-end (start .pre) short q
+    ∙ sym (getD-listOf (endIn was) (length was) q 0 (omega (arith, short .size))))
 
 pub shorten-spec : {M : Type 1} → statement M
 shorten-spec =
@@ -71,6 +81,7 @@ shorten-spec =
     (tie.spec
     Inv-loop
     μ-loop
+    skip-ahead-requires
     loop-holds
     end-of-requires
     shorten-path-requires

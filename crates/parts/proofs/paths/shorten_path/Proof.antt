@@ -1,6 +1,5 @@
 -- `parts::paths::shorten_path` meets its contract. The loop's invariant: paths were only made shorter, the path from e ends at `end`, and p has its entry
 -- as soon as it is passed. The measure: the steps left from e before anything was stored.
-use Prim.Native.Nat.{_<_}
 use native.Mathlib.Omega.{arith}
 use mathlib.Core.Path.{_≡_, refl, sym, _∙_, ap}
 use mathlib.Core.Logic.{_⊎_, ⊎-elim, inl, inr}
@@ -17,8 +16,8 @@ abbrev μ-loop : tie.MeasureT-loop
 μ-loop list₀ p end stop e₀ list e = stepsIn list₀ e
 
 -- a turn's post is not its end
-below : (c : tie.In-loop Inv-loop μ-loop) → Under (c .before .before .pre .0) (c .before .loop .inv .0) (c .before .loop .e)
-below c = under (c .before .before .pre .0) (c .before .loop .inv .0) (c .before .loop .e) (λ h. c .loop-test .taken (h ∙ c .before .loop .inv .1))
+below : (c : tie.In-loop Inv-loop μ-loop) → Under (c .before .loop .inv .0) (c .before .loop .e)
+below c = under (c .before .loop .inv .0) (c .before .loop .e) (λ h. c .loop-test .taken (h ∙ c .before .loop .inv .1))
 
 loop-holds : tie.Need-loop-holds Inv-loop μ-loop
 loop-holds c = (shorter-none _, sym (c .pre .2), inl refl)
@@ -41,7 +40,7 @@ slice-write-list c = omega (arith, below (c .before) .inside, c .before .before 
 loop-less : tie.Need-loop-less Inv-loop μ-loop
 loop-less c =
     let l = c .before .before in
-    read-nearer (l .before .pre .0) (l .loop .inv .0) (l .loop .e) (below (c .before))
+    read-nearer (l .loop .inv .0) (l .loop .e) (l .before .pre .0) (below (c .before))
 
 loop-again : tie.Need-loop-again Inv-loop μ-loop
 loop-again c =
@@ -49,8 +48,8 @@ loop-again c =
     let ends = l .before .pre .0 in
     let i = l .loop .inv in
     let h = below (c .before) .inside in (
-      store-end ends (i .0) (l .loop .e) h (l .before .args .end) (i .1),
-      read-end ends (i .0) (l .loop .e) h ∙ i .1,
+      store-end (i .0) (l .loop .e) ends h (l .before .args .end) (i .1),
+      read-end (i .0) (l .loop .e) ends h ∙ i .1,
       inr (stored (l .loop .list) (l .loop .e) (l .before .args .p) (l .before .args .end) (omega (arith, i .0 .size)) (i .2)),
     )
 

@@ -3,7 +3,6 @@ use native.Mathlib.Omega.{arith}
 use Rattle.surface.specs.Plot.{below}
 use Rattle.surface.specs.Edges.{throughLowest}
 use Rattle.surface.specs.Marks.{ringOf}
-use Rattle.plot.specs.Rings.{Held}
 use Rattle.plot.proofs.Round.{few}
 use Rattle.plot.proofs.Rings.{ring-room, ring-is}
 use borrow.Author.Needs.{needs}

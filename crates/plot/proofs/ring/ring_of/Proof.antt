@@ -7,11 +7,14 @@ use borrow.Author.Needs.{needs}
 use Rattle.plot.proofs.ring.ring_of.Statement.{statement}
 use Rattle.plot.proofs.ring.ring_of.Tie as tie
 
--- after the first six places
+-- after the first three places, and after six
+three : (c : tie.After-with-ahead) → c .with-ahead .result .len ≤ 3
+three c = omega (arith, c .before .before .before .before .with-back .ensures .more, c .before .before .before .with-back2 .ensures .more, c .with-ahead .ensures .more)
+
 six : (c : tie.After-with-ahead4) → c .with-ahead4 .result .len ≤ 6
 six c =
-    omega
-    (arith, c .before .before .before .before .before .before .before .before .before .before .with-back .ensures .more, c .before .before .before .before .before .before .before .before .before .with-back2 .ensures .more, c .before .before .before .before .before .before .with-ahead .ensures .more, c .before .before .before .before .before .with-ahead2 .ensures .more, c .before .with-ahead3 .ensures .more, c .with-ahead4 .ensures .more)
+    let e = c .before .before .before .before .before in
+    omega (arith, three (e .before), e .with-ahead2 .ensures .more, c .before .with-ahead3 .ensures .more, c .with-ahead4 .ensures .more)
 
 with-back-requires : tie.Need-with-back-requires
 with-back-requires c κs = search needs

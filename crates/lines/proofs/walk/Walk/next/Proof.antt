@@ -1,10 +1,9 @@
 -- The virtual pit stays; from a post the leaves of next up and next down.
 use Prim.Native.Nat.{ℕ, _*_, _<_}
-use mathlib.Core.Path.{_≡_, sym, ap}
+use mathlib.Core.Path.{sym, ap}
 use mathlib.Core.Bool.{true, false}
 use Rattle.surface.specs.Lines.{nextDown, nextUp}
 use Rattle.plot.specs.Fits.{Fits}
-use Rattle.lines.specs.declared.walk.Walk.{Walk}
 use Rattle.lines.proofs.Walking.{next-pit, vertex-post}
 use Rattle.lines.proofs.walk.Walk.next.Statement.{statement}
 use Rattle.lines.proofs.walk.Walk.next.Tie as tie
