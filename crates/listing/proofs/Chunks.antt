@@ -2,8 +2,8 @@
 use Prim.Native.Nat.{ℕ, zero, suc, _+_, _-_, _*_, _≤_, _<_}
 use native.Mathlib.Omega.{arith}
 use mathlib.Core.Path.{_≡_, refl, sym, _∙_, ap}
-use mathlib.Core.Bool.{Bool, true, false, cond, _&&_, true≢false}
-use mathlib.Core.List.{List, [], _∷_, _++_, append-nil, append-assoc}
+use mathlib.Core.Bool.{Bool, true, false, _&&_, true≢false}
+use mathlib.Core.List.{List, [], _++_, append-nil, append-assoc}
 use borrow.Author.Tests.{lt-ltb, le-ltb, ltb-true, ltb-false, le-leb}
 use lib.Dec.{ltb, leb}
 use lib.IntN.{ℤ}
@@ -15,13 +15,12 @@ use Rattle.surface.specs.Lister.{joined, saddleLines, postLines}
 use Rattle.surface.proofs.Bools.{either}
 use Rattle.surface.proofs.ListOf.{listOf-ext}
 use Rattle.surface.proofs.Listing.{joined-more}
-use Rattle.plot.specs.Fits.{Fits}
 use Rattle.plot.specs.Rings.{Held}
 use Rattle.plot.specs.declared.ring.Ring.{Ring}
 use Rattle.lines.specs.Directed.{runsOf}
 use Rattle.listing.specs.Wrote.{Wrote}
-use Rattle.listing.specs.Lines.{endsOf, runLines, linesFrom, Saddle, Parted, Listed}
-use Rattle.listing.proofs.Writing.{more, within, nothing, front}
+use Rattle.listing.specs.Lines.{runLines, linesFrom, Saddle, Parted, Listed}
+use Rattle.listing.proofs.Writing.{more, nothing, front}
 
 first-false : (a b : Bool) → a && b ≡ false → b ≡ true → a ≡ false
 first-false true b h e = absurd (true≢false (sym e ∙ h))

@@ -1,17 +1,16 @@
 -- The lines of a saddle, by the ring places at which its runs start.
-use Prim.Native.Nat.{ℕ, zero, suc, _+_, _*_, _≤_, _<_}
+use Prim.Native.Nat.{ℕ, _+_, _*_, _≤_, _<_}
 use native.Mathlib.Omega.{arith}
-use mathlib.Core.Path.{_≡_, refl, sym, _∙_, ap, subst}
-use mathlib.Core.Logic.{_⊎_, ⊎-elim, inl, inr}
-use mathlib.Core.Bool.{Bool, true, false, cond}
-use mathlib.Core.List.{List, [], _∷_, _++_, List·Memᴰ}
+use mathlib.Core.Path.{_≡_, sym, _∙_, ap}
+use mathlib.Core.Logic.{_⊎_, ⊎-elim}
+use mathlib.Core.Bool.{Bool, true}
+use mathlib.Core.List.{List, [], _∷_, _++_}
 use borrow.Author.Tests.{eq-eqb, ne-eqb}
-use lib.Dec.{eqb}
 use lib.IntN.{ℤ}
 use lib.ListN.{length, getD, drop}
 use Rattle.surface.specs.Lists.{listOf, takeWhile, lastOr}
 use Rattle.surface.specs.Plot.{virtualPit}
-use Rattle.surface.specs.Edges.{lowest, lowerRuns}
+use Rattle.surface.specs.Edges.{lowest}
 use Rattle.surface.specs.Marks.{ringOf}
 use Rattle.surface.specs.Lines.{line, lowestOf}
 use Rattle.surface.specs.Lister.{joined, decimal, textLine, endName, lineText}
@@ -27,7 +26,7 @@ use Rattle.lines.specs.Runs.{StartsAt, Round}
 use Rattle.lines.proofs.Tabled.{round}
 use Rattle.lines.proofs.Walking.{descent, vertices, fit}
 use Rattle.listing.specs.Wrote.{Wrote}
-use Rattle.listing.specs.Lines.{endIn, endsOf, runLines, Saddle}
+use Rattle.listing.specs.Lines.{endIn, runLines, Saddle}
 use Rattle.listing.proofs.Writing.{more, within, nothing}
 
 -- the end from a vertex

@@ -2,19 +2,17 @@
 use Prim.Native.Nat.{ℕ, _+_, _*_, _≤_, _<_}
 use native.Mathlib.Omega.{arith}
 use mathlib.Core.Path.{_≡_, refl, sym, _∙_, ap}
-use mathlib.Core.Bool.{Bool, true, false, cond, not, _&&_}
+use mathlib.Core.Bool.{Bool, true, false, cond, _&&_}
 use mathlib.Core.List.{List, [], _∷_, _++_}
-use borrow.Author.Tests.{eq-eqb, ne-eqb, le-ltb}
-use lib.Dec.{eqb}
+use borrow.Author.Tests.{ne-eqb, le-ltb}
 use lib.IntN.{ℤ, pos}
-use lib.ListN.{length, getD, take, replicate, length-replicate, List·getD-eq-default}
-use Rattle.surface.specs.Lists.{listOf, firstNot}
+use lib.ListN.{length, getD, replicate, length-replicate, List·getD-eq-default}
+use Rattle.surface.specs.Lists.{firstNot}
 use Rattle.surface.specs.Plot.{isSide, isHeight}
-use Rattle.surface.specs.Marks.{marksOf, peaks, pits, saddles}
-use Rattle.surface.specs.Lines.{dalesOf, hillsOf}
+use Rattle.surface.specs.Marks.{peaks, pits, saddles}
 use Rattle.surface.specs.Refusals.{verdict, readVerdict}
-use Rattle.surface.specs.Calls.{readAnswer, readHeights, surveyAnswer, surveyMarks, partsDales, partsHills}
-use Rattle.surface.specs.Lister.{joined, decimal, textLine, headLine, postLines, plotText, refusedText, listing}
+use Rattle.surface.specs.Calls.{readAnswer, readHeights, surveyAnswer, partsDales, partsHills}
+use Rattle.surface.specs.Lister.{decimal, textLine, headLine, plotText, refusedText, listing}
 use Rattle.surface.specs.declared.Counts.{Counts}
 use Rattle.surface.specs.declared.Size.{Size}
 use Rattle.surface.proofs.Bools.{and-left, and-right, either}

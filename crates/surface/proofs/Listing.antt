@@ -1,10 +1,10 @@
 -- Laws of the lister's text: lists joined one after the other, the last entry of a line, and how many lines a post can have.
-use Prim.Native.Nat.{ℕ, zero, suc, _+_, _*_, _≤_, _<_}
+use Prim.Native.Nat.{ℕ, zero, suc, _+_, _≤_}
 use native.Mathlib.Omega.{arith}
-use mathlib.Core.Path.{_≡_, refl, sym, _∙_, ap}
+use mathlib.Core.Path.{_≡_, refl, sym}
 use mathlib.Core.Bool.{Bool, true, false, cond, not, _&&_}
 use mathlib.Core.List.{List, [], _∷_, _++_, append-assoc, append-nil}
-use lib.ListN.{length, length-append}
+use lib.ListN.{length}
 use Rattle.surface.specs.Lists.{listOf, keep, all, takeWhile, lastOr}
 use Rattle.surface.specs.Edges.{runs, runsFrom}
 use Rattle.surface.specs.Lines.{isEnd, next, walk, end}

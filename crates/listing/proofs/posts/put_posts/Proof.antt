@@ -7,8 +7,7 @@ use lib.Dec.{ltb, leb}
 use lib.ListN.{length}
 use Rattle.surface.proofs.Bools.{and-left, and-right}
 use Rattle.plot.proofs.Round.{few}
-use Rattle.listing.specs.Lines.{Parted}
-use Rattle.listing.proofs.Chunks.{Going, going-none, going-more, going-room, going-end}
+use Rattle.listing.proofs.Chunks.{Going, going-none, going-more, going-end}
 use Rattle.listing.proofs.posts.put_posts.Statement.{statement}
 use Rattle.listing.proofs.posts.put_posts.Tie as tie
 

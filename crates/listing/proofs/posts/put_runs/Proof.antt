@@ -1,8 +1,7 @@
 -- `listing::posts::put_runs` meets its contract. The loop's invariant: the lines of the runs before number `run` are written. There are at most eight.
-use Prim.Native.Nat.{ℕ, _+_, _-_, _*_, _≤_, _<_}
+use Prim.Native.Nat.{_-_, _*_, _≤_, _<_}
 use native.Mathlib.Omega.{arith}
 use mathlib.Core.Path.{_≡_, refl}
-use borrow.Author.Needs.{needs}
 use lib.ListN.{length}
 use Rattle.plot.proofs.Round.{few}
 use Rattle.lines.specs.Directed.{runsOf}
