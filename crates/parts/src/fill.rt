@@ -1,8 +1,9 @@
 // Next down and next up of every post of a plot, a row at a time. The diagonals of the cells below a row are worked out once, for both and for the row
 // below it too.
 use plot::next::next_down_at;
-use plot::next::next_inside;
+use plot::next::next_down_inside;
 use plot::next::next_up_at;
+use plot::next::next_up_inside;
 use plot::row::falls_row;
 ghost use mathlib.Core.Path.{_≡_};
 ghost use mathlib.Core.Bool.{true, false};
@@ -67,8 +68,8 @@ fn next_inner(
         let ne = above[c];
         let sw = here[c - 1];
         let se = here[c];
-        down[p] = next_inside(heights, rows, columns, p, nw, ne, sw, se, false) as u16;
-        up[p] = next_inside(heights, rows, columns, p, nw, ne, sw, se, true) as u16;
+        down[p] = next_down_inside(heights, rows, columns, p) as u16;
+        up[p] = next_up_inside(heights, rows, columns, p, nw, ne, sw, se) as u16;
         c += 1;
     }
 }

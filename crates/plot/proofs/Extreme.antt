@@ -21,7 +21,7 @@ use Rattle.plot.specs.declared.sign.Corners.{Corners}
 use Rattle.plot.specs.Fits.{Fits}
 use Rattle.plot.specs.Borders.{bordersOf}
 use Rattle.plot.specs.Signs.{cornersOf, cornersBy, inside, Room, Inside}
-use Rattle.plot.proofs.Round.{sides, off, north, no-pit, room, borders-are, corners-are}
+use Rattle.plot.proofs.Round.{sides, off, north, no-pit, room, off-first, off-last, borders-are, corners-are}
 use Rattle.plot.specs.Scan.{toward, lowerOf, step, scan, turn, Wide}
 
 split : {A : Type 0} (b : Bool) → (b ≡ true → A) → (b ≡ false → A) → A
@@ -254,6 +254,9 @@ module _ {rows columns : ℕ} {hs : List ℤ} {p : ℕ} {nw ne sw se : Bool} (i 
   room-inside =
       let falls = throughLowest (below hs) columns in
       rw (← borders-are i, ← corners-are i) (room (i .fits) p (i .post) falls, wide (i .fits) p (i .post) falls)
+
+  pub three-inside : 3 ≤ columns
+  three-inside = three (i .fits) p (i .post) (off-first i) (off-last i)
 
   pub next-is : (up : Bool) → cond up (nextUp rows columns hs p) (nextDown rows columns hs p) ≡ scan (toward hs up) p (turn columns p inside (cornersBy nw ne sw se))
   next-is up =

@@ -4,6 +4,7 @@ pub mod Order
 pub mod Diagonal
 pub mod Round
 pub mod Extreme
+pub mod Block
 pub mod Steps
 pub mod Sizes
 pub mod Rings

@@ -277,15 +277,16 @@ module _ {rows columns : ℕ} {hs : List ℤ} {p : ℕ} {nw ne sw se : Bool} (i 
   off-top : top rows columns p ≡ false
   off-top = or-left _ _ (i .border)
 
-  off-last : last rows columns p ≡ false
+  pub off-last : last rows columns p ≡ false
   off-last = or-left _ _ (or-right (top rows columns p) _ (i .border))
 
   off-bottom : bottom rows columns p ≡ false
   off-bottom = or-left _ _ (or-right (last rows columns p) _ (or-right (top rows columns p) _ (i .border)))
 
-  off-first : first rows columns p ≡ false
+  pub off-first : first rows columns p ≡ false
   off-first = or-right (bottom rows columns p) _ (or-right (last rows columns p) _ (or-right (top rows columns p) _ (i .border)))
 
+  -- the posts round it are there
   pub inside-bounds : (columns + 1 ≤ p) × (p + columns + 1 < length hs)
   inside-bounds = (
     northWest (i .fits) p (i .post) off-first off-top,
@@ -297,12 +298,6 @@ module _ {rows columns : ℕ} {hs : List ℤ} {p : ℕ} {nw ne sw se : Bool} (i 
 
   pub corners-are : cornersOf rows columns (throughLowest (below hs) columns) p ≡ cornersBy nw ne sw se
   corners-are = rw (off-top, off-last, off-bottom, off-first, i .nwFalls, i .neFalls, i .swFalls, i .seFalls)
-
-  -- the posts round it are there
-  pub inner : (columns + 1 ≤ p) × (p + columns + 1 < length hs)
-  inner =
-      let r = room (i .fits) p (i .post) (λ _. true) in
-      (r .northWest (rw (off-first, off-top)), r .southEast (rw (off-last, off-bottom)))
 
   pub mark-by-falls : markAt rows columns hs p ≡ markOfSigns (asSigns (signsOf (λ q. below hs q p) columns p inside (cornersBy nw ne sw se)))
   mark-by-falls = mark-by-corners (i .fits) p (i .post) ∙ rw (borders-are, corners-are)

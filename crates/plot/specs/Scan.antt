@@ -81,3 +81,7 @@ pub record Wide (columns : ℕ) (at : Borders) (with : Corners) : Type 0 where
 -- the posts round an inner post are there, joined to it or not
 abbrev pub Inner : ℕ → ℕ → ℕ → Bool → Type 0
 Inner n columns p inner = inner ≡ true → (columns + 1 ≤ p) × (p + columns + 1 < n)
+
+-- joined to every corner
+abbrev pub everyCorner : Corners
+everyCorner = record { ne = true; se = true; sw = true; nw = true }

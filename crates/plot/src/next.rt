@@ -6,14 +6,15 @@ use crate::side;
 use crate::sign;
 use crate::sign::Corners;
 ghost use mathlib.Core.Path.{_≡_};
-ghost use mathlib.Core.Bool.{true, cond};
+ghost use mathlib.Core.Bool.{true, false, cond};
 ghost use Prim.Native.Nat.{_+_, _-_, _*_, _≤_, _<_};
 ghost use lib.ListN.{length};
 ghost use lib.Signed.{ltZ};
 ghost use Rattle.surface.specs.Plot.{height};
+ghost use Rattle.surface.specs.Edges.{isBorder};
 ghost use Rattle.surface.specs.Lines.{nextDown, nextUp};
 ghost use Rattle.plot.specs.Fits.{Fits};
-ghost use Rattle.plot.specs.Signs.{Room, Inside};
+ghost use Rattle.plot.specs.Signs.{inside, Room, Inside};
 ghost use Rattle.plot.specs.Scan.{toward, scan, turn, Held, BackAsks, Back, AheadAsks, Ahead, Wide, Inner};
 
 // x where b holds, else y.
@@ -121,6 +122,18 @@ pub fn lowest_round(
     nw.post
 }
 
+// The borders of a post on none.
+fn on_no_border() -> Borders
+    ensures { λ r. ⌜ r ≡ inside ⌝ }
+{
+    Borders {
+        top: false,
+        bottom: false,
+        first: false,
+        last: false,
+    }
+}
+
 // Next up from any post.
 pub fn next_up_at(heights: &[i32], rows: usize, columns: usize, p: usize) -> usize
     requires { ⌜ Fits rows columns (now heights) × (p < rows * columns) ⌝ }
@@ -129,6 +142,45 @@ pub fn next_up_at(heights: &[i32], rows: usize, columns: usize, p: usize) -> usi
     let at = border::borders_of(rows, columns, p);
     let with = sign::corners_of(heights, rows, columns, p, at);
     lowest_round(heights, true, columns, p, at, with, false)
+}
+
+// Next up from a post on no border, where it is known which diagonals round it fall.
+pub fn next_up_inside(
+    heights: &[i32],
+    rows: usize,
+    columns: usize,
+    p: usize,
+    nw: bool,
+    ne: bool,
+    sw: bool,
+    se: bool,
+) -> usize
+    requires { ⌜ Inside rows columns (now heights) p nw ne sw se ⌝ }
+    ensures { λ r. ⌜ r ≡ nextUp rows columns (now (heights .entry)) p ⌝ }
+{
+    let at = on_no_border();
+    let with = Corners {
+        ne: !ne,
+        se,
+        sw: !sw,
+        nw,
+    };
+    lowest_round(heights, true, columns, p, at, with, true)
+}
+
+// Next down from a post on no border. The diagonals do not matter: a corner that is not joined has a lower post beside it, which is.
+pub fn next_down_inside(heights: &[i32], rows: usize, columns: usize, p: usize) -> usize
+    requires { ⌜ Fits rows columns (now heights) × (p < rows * columns) × (isBorder rows columns p ≡ false) ⌝ }
+    ensures { λ r. ⌜ r ≡ nextDown rows columns (now (heights .entry)) p ⌝ }
+{
+    let at = on_no_border();
+    let with = Corners {
+        ne: true,
+        se: true,
+        sw: true,
+        nw: true,
+    };
+    lowest_round(heights, false, columns, p, at, with, true)
 }
 
 // Next down from any post; from one on a border it is the virtual pit.
@@ -140,36 +192,5 @@ pub fn next_down_at(heights: &[i32], rows: usize, columns: usize, p: usize) -> u
     if at.top | (at.last | (at.bottom | at.first)) {
         return 65535;
     }
-    let with = sign::corners_of(heights, rows, columns, p, at);
-    lowest_round(heights, false, columns, p, at, with, false)
-}
-
-// Next down, or next up, from a post on no border, where it is known which diagonals round it fall.
-pub fn next_inside(
-    heights: &[i32],
-    rows: usize,
-    columns: usize,
-    p: usize,
-    nw: bool,
-    ne: bool,
-    sw: bool,
-    se: bool,
-    up: bool,
-) -> usize
-    requires { ⌜ Inside rows columns (now heights) p nw ne sw se ⌝ }
-    ensures { λ r. ⌜ r ≡ cond up (nextUp rows columns (now (heights .entry)) p) (nextDown rows columns (now (heights .entry)) p) ⌝ }
-{
-    let at = Borders {
-        top: false,
-        bottom: false,
-        first: false,
-        last: false,
-    };
-    let with = Corners {
-        ne: !ne,
-        se,
-        sw: !sw,
-        nw,
-    };
-    lowest_round(heights, up, columns, p, at, with, true)
+    next_down_inside(heights, rows, columns, p)
 }

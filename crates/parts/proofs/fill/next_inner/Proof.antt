@@ -66,13 +66,15 @@ shared-slice-read-sw c = omega arith
 shared-slice-read-se : tie.Need-shared-slice-read-se Inv-loop μ-loop
 shared-slice-read-se c = omega arith
 
-next-inside-requires : tie.Need-next-inside-requires Inv-loop μ-loop
-next-inside-requires c κs = inside c
+next-down-inside-requires : tie.Need-next-down-inside-requires Inv-loop μ-loop
+next-down-inside-requires c κs =
+    let i = inside c in
+    (i .fits, i .post, i .border)
 
 cast-down : tie.Need-cast-down Inv-loop μ-loop
 cast-down c =
     let i = inside (c .before) in
-    omega (arith, c .next-inside .ensures, next-fits (i .fits) false _ (i .post))
+    omega (arith, c .next-down-inside .ensures, next-fits (i .fits) false _ (i .post))
 
 mul-down : tie.Need-mul-down Inv-loop μ-loop
 mul-down c = omega arith
@@ -80,13 +82,13 @@ mul-down c = omega arith
 slice-write-down : tie.Need-slice-write-down Inv-loop μ-loop
 slice-write-down c = omega arith
 
-next-inside-requires-2 : tie.Need-next-inside-requires-2 Inv-loop μ-loop
-next-inside-requires-2 c κs = inside (c .before)
+next-up-inside-requires : tie.Need-next-up-inside-requires Inv-loop μ-loop
+next-up-inside-requires c κs = inside (c .before)
 
 cast-up : tie.Need-cast-up Inv-loop μ-loop
 cast-up c =
     let i = inside (c .before .before) in
-    omega (arith, c .next-inside2 .ensures, next-fits (i .fits) true _ (i .post))
+    omega (arith, c .next-up-inside .ensures, next-fits (i .fits) true _ (i .post))
 
 mul-up : tie.Need-mul-up Inv-loop μ-loop
 mul-up c = omega arith
@@ -109,8 +111,8 @@ loop-again c =
       omega arith,
       length-set (l .down) _ _ ∙ l .inv .2,
       length-set (l .up) _ _ ∙ l .inv .3,
-      store-next _ (a .base + 1) (l .c - 1) (l .c + 1 - 1) (l .down) (a .down .now) p _ (l .inv .4) (omega arith) (omega arith) (c .before .next-inside .ensures),
-      store-next _ (a .base + 1) (l .c - 1) (l .c + 1 - 1) (l .up) (a .up .now) p _ (l .inv .5) (omega arith) (omega arith) (c .next-inside2 .ensures),
+      store-next _ (a .base + 1) (l .c - 1) (l .c + 1 - 1) (l .down) (a .down .now) p _ (l .inv .4) (omega arith) (omega arith) (c .before .next-down-inside .ensures),
+      store-next _ (a .base + 1) (l .c - 1) (l .c + 1 - 1) (l .up) (a .up .now) p _ (l .inv .5) (omega arith) (omega arith) (c .next-up-inside .ensures),
     )
 
 same-length : tie.Need-same-length Inv-loop μ-loop
@@ -140,11 +142,11 @@ next-inner-spec =
     sub-sw
     shared-slice-read-sw
     shared-slice-read-se
-    next-inside-requires
+    next-down-inside-requires
     cast-down
     mul-down
     slice-write-down
-    next-inside-requires-2
+    next-up-inside-requires
     cast-up
     mul-up
     slice-write-up
