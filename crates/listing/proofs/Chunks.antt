@@ -84,9 +84,6 @@ module _ (rows columns : ℕ) (hs : List ℤ) (p : ℕ) where
         first = λ f. absurd (omega (arith, g .low));
       }
 
-  pub going-room : {l l₁ : List ℕ} {last next bytes : ℕ} → Going l l₁ last next bytes → bytes ≤ last + 960
-  going-room g = omega (arith, g .wrote .place, g .wrote .bound)
-
   pub going-end : {l l₁ : List ℕ} {last next bytes : ℕ} → Going l l₁ last next bytes → last + 960 ≡ length l → next ≤ rows * columns
       → (ltb next (rows * columns) && leb bytes last) ≡ false
       → Listed rows columns hs p l l₁ (record { post = next; bytes = bytes })

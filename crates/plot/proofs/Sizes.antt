@@ -1,10 +1,10 @@
 -- Rows 1 and 2 of the table, case by case, and row 4.
-use Prim.Native.Nat.{ℕ, _*_, _≤_}
+use Prim.Native.Nat.{ℕ, _*_}
 use native.Mathlib.Omega.{arith}
 use mathlib.Core.Path.{_≡_, refl, sym, _∙_, ap}
-use mathlib.Core.Bool.{Bool, true, false, not, _&&_}
+use mathlib.Core.Bool.{true, false, not, _&&_}
 use mathlib.Core.List.{List, [], _∷_}
-use borrow.Author.Tests.{leb-true, eq-eqb, ne-eqb, lt-ltb, le-ltb}
+use borrow.Author.Tests.{leb-true, eq-eqb, ne-eqb, le-ltb}
 use lib.Dec.{leb}
 use lib.IntN.{ℤ}
 use lib.ListN.{length}
@@ -12,7 +12,7 @@ use Rattle.surface.specs.Lists.{all, firstNot}
 use Rattle.surface.specs.Plot.{isSide, isHeight}
 use Rattle.surface.specs.Refusals.{verdict, row4}
 use Rattle.surface.proofs.Bools.{and-left, and-right, either}
-use Rattle.surface.proofs.FirstNot.{all-firstNot, ranged-all, firstNot-le}
+use Rattle.surface.proofs.FirstNot.{all-firstNot, ranged-all}
 use Rattle.surface.proofs.Accepted.{Plotted}
 use Rattle.surface.proofs.Verdicts.{row-holds, row-passed, none-left}
 use Rattle.plot.specs.Fits.{Fits}

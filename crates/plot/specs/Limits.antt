@@ -1,5 +1,5 @@
 -- The first rows of the table, which every call over a plot looks at in the same way.
-use Prim.Native.Nat.{ℕ, _*_, _≤_}
+use Prim.Native.Nat.{ℕ}
 use mathlib.Core.Path.{_≡_}
 use mathlib.Core.List.{List, _∷_}
 use lib.IntN.{ℤ}

@@ -1,10 +1,10 @@
 -- What acceptance says of each call: its lists and numbers are those of a plot.
-use Prim.Native.Nat.{ℕ, _+_, _*_, _-_, _<_, _≤_}
+use Prim.Native.Nat.{ℕ, _*_, _-_, _<_, _≤_}
 use native.Mathlib.Nat.{mul-le-mul}
 use native.Mathlib.Omega.{arith}
-use mathlib.Core.Path.{_≡_, refl, _∙_, ap}
-use mathlib.Core.Bool.{Bool, true, false, cond, not, _&&_, _||_}
-use mathlib.Core.List.{List, [], _∷_}
+use mathlib.Core.Path.{_≡_, _∙_, ap}
+use mathlib.Core.Bool.{Bool, true, false, not, _&&_}
+use mathlib.Core.List.{List}
 use borrow.Author.Tests.{leb-true, ltb-true, ltb-false, eqb-true, eq-eqb, lt-ltb, le-ltb, not-false}
 use lib.Dec.{leb, ltb, eqb}
 use lib.IntN.{ℤ}
@@ -14,7 +14,7 @@ use Rattle.surface.specs.Plot.{isSide, isHeight}
 use Rattle.surface.specs.Edges.{lowerRuns}
 use Rattle.surface.specs.Marks.{ringOf, markAt}
 use Rattle.surface.specs.SurveyFile.{statedCount, countFor, fileSize, isTenths, tenthsOf}
-use Rattle.surface.specs.Refusals.{verdict, surveyVerdict, reshootVerdict, lineVerdict, partsVerdict, readVerdict, writeVerdict}
+use Rattle.surface.specs.Refusals.{surveyVerdict, reshootVerdict, lineVerdict, partsVerdict, readVerdict, writeVerdict}
 use Rattle.surface.proofs.Bools.{and-left, and-right, or-left, or-right}
 use Rattle.surface.proofs.FirstNot.{firstNot-le, ranged-all, all-firstNot}
 use Rattle.surface.proofs.Verdicts.{accepted-clear, clear-accepted}

@@ -5,7 +5,7 @@ use Prim.Native.Nat.{ℕ, zero, suc, _+_, _-_, _*_, _≤_, _<_}
 use native.Mathlib.Omega.{arith}
 use native.Mathlib.Nat.{mul-one}
 use mathlib.Core.Path.{_≡_, refl, sym, _∙_, ap, ap₂}
-use mathlib.Core.Bool.{Bool, true, false, cond, not, _&&_, _||_, true≢false, and-true, and-false}
+use mathlib.Core.Bool.{Bool, true, false, not, _&&_, _||_, true≢false, and-true, and-false}
 use mathlib.Core.List.{List·Memᴰ}
 use lib.Dec.{eqb}
 use borrow.Author.Tests.{ne-eqb}
@@ -15,7 +15,7 @@ use Rattle.surface.specs.Edges.{top, bottom, first, last, isCell, ring}
 use Rattle.surface.specs.Marks.{mark, multiplicity, peaks, pits, saddles}
 use Rattle.surface.proofs.Order.{StrictTotal}
 use Rattle.surface.proofs.Sum.{sum, sum-ext, sum-add, sum-shift, sum-const, sum-eight}
-use Rattle.surface.proofs.Grid.{Sides, top-true, top-false, bottom-true, bottom-false, first-true, first-false, last-true, last-false, south-top, south-first, south-last, east-top, east-bottom, east-first, row-lt, column-lt, row-fits, first-zero, last-end, east-first-last, first-south, top-bottom, first-last}
+use Rattle.surface.proofs.Grid.{Sides, top-true, top-false, bottom-true, bottom-false, south-top, south-first, south-last, east-top, east-bottom, row-fits, first-zero, last-end, east-first-last, first-south, top-bottom, first-last}
 use Rattle.surface.proofs.Census.{census}
 use Rattle.surface.proofs.ListOf.{count-listOf, total-listOf}
 use Rattle.surface.proofs.Runs.{markBy}

@@ -1,10 +1,10 @@
 -- Demand 3, whole: one theorem about a whole series.
-use Prim.Native.Nat.{ℕ, zero, suc, _+_, _*_, _≤_, _<_}
+use Prim.Native.Nat.{ℕ, _+_, _*_, _≤_, _<_}
 use native.Mathlib.Omega.{arith}
 use mathlib.Core.Path.{_≡_, refl, sym, _∙_, ap, subst}
 use mathlib.Core.Logic.{_⊎_, ⊎-elim, inl, inr, _↔_}
-use mathlib.Core.Bool.{Bool, true, false, cond}
-use mathlib.Core.List.{List, [], _∷_, _++_, List·Memᴰ}
+use mathlib.Core.Bool.{true, false}
+use mathlib.Core.List.{List, List·Memᴰ}
 use lib.Dec.{eqb}
 use lib.IntN.{ℤ}
 use lib.ListN.{length, getD, take, drop}
@@ -14,16 +14,16 @@ use Rattle.surface.specs.Lists.{listOf, any, count, one}
 use Rattle.surface.specs.Plot.{below, reversed, virtualPit}
 use Rattle.surface.specs.Edges.{isBorder, lowerRuns, upperRuns}
 use Rattle.surface.specs.Marks.{ringOf, markAt, marksOf, peaks, pits, saddles}
-use Rattle.surface.specs.Lines.{end, line, lowestOf, thalweg, ridge, daleAt, hillAt, dalesOf, hillsOf, Way, here, step, OnePiece}
-use Rattle.surface.specs.Refusals.{Verdict, lineVerdict, surveyVerdict, partsVerdict}
+use Rattle.surface.specs.Lines.{thalweg, ridge, daleAt, hillAt, dalesOf, hillsOf, Way, here, step, OnePiece}
+use Rattle.surface.specs.Refusals.{Verdict}
 use Rattle.surface.specs.Calls.{surveyAnswer, surveyMarks, lineAnswer, lineList, thalwegVerdict, ridgeVerdict, thalwegAnswer, thalwegList, ridgeAnswer, ridgeList, partsAnswer, partsDales, partsHills}
-use Rattle.surface.specs.Series.{Reshoot, Sheet, afterAll, Kept, plainAll}
-use Rattle.surface.specs.Demand.{namesIn, ExactlyOne, EdgeOf, IsPit, IsPeak, LineOf, InDale, InHill, Parted, Promised, surveyed, Demand3}
+use Rattle.surface.specs.Series.{Reshoot, Sheet, plainAll}
+use Rattle.surface.specs.Demand.{namesIn, ExactlyOne, IsPit, IsPeak, LineOf, InDale, InHill, Parted, Promised, surveyed, Demand3}
 use Rattle.surface.proofs.Bools.{same-test, either}
-use Rattle.surface.proofs.Sum.{sum, sum-ext}
+use Rattle.surface.proofs.Sum.{sum-ext}
 use Rattle.surface.proofs.ListOf.{getD-listOf, member-listOf, listOf-member, any-member, count-listOf}
 use Rattle.surface.proofs.Grid.{row-fits, top-true}
-use Rattle.surface.proofs.Walks.{Vertex, Descent, LineFalls, line-falls, end-vertex, end-inside, end-is-stop, end-stop, pit-stop}
+use Rattle.surface.proofs.Walks.{Vertex, line-falls, end-vertex, end-inside, end-is-stop}
 use Rattle.surface.proofs.Network.{theSides, not-pit, down, up, up-post, up-keeps, end-pit, end-peak, dale-pit, pit-dale, hill-peak, peak-hill, dale-piece, hill-piece, balanced, border-dale, mark-pit, mark-peak}
 use Rattle.surface.proofs.Accepted.{Plotted, survey-plotted, line-plotted, plotted-line, plotted-survey, plotted-parts}
 use Rattle.surface.proofs.Series.{Good, good-series}

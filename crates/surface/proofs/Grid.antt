@@ -175,9 +175,6 @@ module _ {rows columns : ℕ} (s : Sides rows columns) where
   pub north-last : (p : ℕ) → top rows columns p ≡ false → last rows columns (p - columns) ≡ last rows columns p
   north-last p t = ap (λ k. eqb (k + 1) columns) (column-north p t)
 
-  pub west-top : (p : ℕ) → first rows columns p ≡ false → top rows columns (p - 1) ≡ top rows columns p
-  west-top p f = ap (λ r. eqb r 0) (row-west p f)
-
   pub west-bottom : (p : ℕ) → first rows columns p ≡ false → bottom rows columns (p - 1) ≡ bottom rows columns p
   west-bottom p f = ap (λ r. eqb (r + 1) rows) (row-west p f)
 

@@ -123,11 +123,7 @@ module _ {rows columns : ℕ} (s : Sides rows columns) (z : ℕ) (hs hs′ : Lis
   below-local : AgreeRound rows columns (below hs) (below hs′) p
   below-local u v bu bv = below-agree hs hs′ u v (block-height u bu) (block-height v bv)
 
-  -- one height leaves every ring and every mark outside the posts that touch it
-  pub ringOf-local : ringOf rows columns hs p ≡ ringOf rows columns hs′ p
-  unfolding ringOf
-  ringOf-local = ring-local s _ _ p h (diagonal-local s (below hs) (below hs′) p below-local)
-
+  -- one height leaves every mark outside the posts that touch it
   pub markAt-local : markAt rows columns hs p ≡ markAt rows columns hs′ p
   unfolding markAt ringOf
   markAt-local = mark-lowest-local s (below hs) (below hs′) p h below-local

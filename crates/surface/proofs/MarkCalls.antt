@@ -1,6 +1,6 @@
 -- The outcomes of a survey and of a re-shoot, by whether the call was accepted.
 use Prim.Native.Nat.{ℕ}
-use mathlib.Core.Path.{_≡_, refl, _∙_}
+use mathlib.Core.Path.{_≡_, refl}
 use mathlib.Core.List.{List}
 use borrow.Author.Tests.{ne-eqb, eq-eqb}
 use lib.IntN.{ℤ}
@@ -8,7 +8,6 @@ use lib.ListN.{set}
 use Rattle.surface.specs.Marks.{marksOf, redrawn, peaks, pits, saddles}
 use Rattle.surface.specs.Refusals.{surveyVerdict, reshootVerdict}
 use Rattle.surface.specs.Calls.{surveyAnswer, surveyMarks, reshootHeights, reshootMarks}
-use Rattle.surface.specs.declared.Counts.{Counts}
 use Rattle.surface.proofs.Accepted.{survey-plotted, plotted-survey}
 
 module _ (rows columns : ℕ) (hs : List ℤ) (marks : List ℕ) where

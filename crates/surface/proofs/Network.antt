@@ -1,24 +1,21 @@
 -- The general laws at document 01's order, diagonals and descent, over the heights of a plot.
-use Prim.Native.Nat.{ℕ, zero, suc, _+_, _*_, _≤_, _<_}
+use Prim.Native.Nat.{ℕ, _+_, _*_, _≤_, _<_}
 use native.Mathlib.Omega.{arith}
-use mathlib.Core.Path.{_≡_, refl, sym, _∙_, ap, subst}
-use mathlib.Core.Logic.{_⊎_, ⊎-elim, inl, inr, _↔_}
-use mathlib.Core.Bool.{Bool, true, false, cond, not, _&&_, _||_, true≢false}
-use mathlib.Core.List.{List, [], _∷_, List·Memᴰ}
+use mathlib.Core.Path.{_≡_, sym, _∙_, ap}
+use mathlib.Core.Logic.{inl, inr, _↔_}
+use mathlib.Core.Bool.{Bool, true, false, not, true≢false}
+use mathlib.Core.List.{List, List·Memᴰ}
 use native.Mathlib.Decide.{ℕ-discrete}
-use lib.Dec.{eqb}
 use lib.IntN.{ℤ}
-use lib.ListN.{length, getD}
-use borrow.Author.Tests.{eqb-true, eq-eqb, ne-eqb, not-true, not-false}
+use borrow.Author.Tests.{eq-eqb, ne-eqb, not-true, not-false}
 use Rattle.surface.specs.Lists.{any, all}
 use Rattle.surface.specs.Plot.{below, reversed, virtualPit}
 use Rattle.surface.specs.Edges.{members, places, ring, throughLowest, isBorder, lowest}
 use Rattle.surface.specs.Marks.{mark, ringOf, markAt, marksOf, peaks, pits, saddles}
 use Rattle.surface.specs.Lines.{isEnd, next, end, lowestOf, nextDown, daleAt, hillAt, OnePiece}
 use Rattle.surface.specs.Demand.{EdgeOf, IsPit, IsPeak}
-use Rattle.surface.proofs.Bools.{either, or-left, or-right, true-T}
-use Rattle.surface.proofs.Grid.{Sides, sides, plot-fits, top-true}
-use Rattle.surface.proofs.Order.{StrictTotal, below-strict, reversed-strict, pit-below, not-below-pit}
+use Rattle.surface.proofs.Grid.{Sides, sides, plot-fits}
+use Rattle.surface.proofs.Order.{below-strict, reversed-strict, pit-below, not-below-pit}
 use Rattle.surface.proofs.RingEdges.{edge-sym, ring-edge, ring-member, ring-other, ring-pit}
 use Rattle.surface.proofs.Lowest.{lowest-member, lowest-least}
 use Rattle.surface.proofs.Runs.{mark-one, mark-two}

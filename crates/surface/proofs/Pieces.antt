@@ -1,7 +1,7 @@
 -- Law 6, one piece: what ends at one vertex is in one piece along edges, over any descent whose steps go along edges. Downward these are dales, upward hills.
-use Prim.Native.Nat.{ℕ, zero, suc, _+_, _≤_, _<_}
+use Prim.Native.Nat.{ℕ, zero, suc, _≤_, _<_}
 use native.Mathlib.Omega.{arith}
-use mathlib.Core.Path.{_≡_, refl, sym, _∙_, ap, subst}
+use mathlib.Core.Path.{_≡_, sym, _∙_, subst}
 use mathlib.Core.Bool.{Bool, true, false}
 use mathlib.Core.List.{List, List·Memᴰ}
 use Rattle.surface.specs.Lines.{isEnd, next, end, Way, here, step, OnePiece}

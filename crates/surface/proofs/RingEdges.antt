@@ -129,10 +129,6 @@ module _ {rows columns : ℕ} (s : Sides rows columns) (falls : ℕ → Bool) wh
     pub ring-other : (p q : ℕ) → p < rows * columns → List·Memᴰ q (ring rows columns falls p) → q ≢ p
     ring-other p q h m = place-other h (ring-place rows columns falls p q .0 m)
 
-    -- two posts are in each other's rings or in neither
-    pub ring-sym : (p q : ℕ) → p < rows * columns → q < rows * columns → List·Memᴰ q (ring rows columns falls p) → List·Memᴰ p (ring rows columns falls q)
-    ring-sym p q hp hq m = ring-edge q p hq .1 (edge-sym (ring-edge p q hp .0 m))
-
     -- the members of a ring are posts or the virtual pit
     pub ring-member : (p q : ℕ) → p < rows * columns → List·Memᴰ q (ring rows columns falls p) → (q < rows * columns) ⊎ (q ≡ virtualPit)
     ring-member p q h m = edge-end (ring-edge p q h .0 m)

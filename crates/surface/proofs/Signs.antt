@@ -1,6 +1,6 @@
 -- The eight signs of a post: going round the ring N, NE, .. NW, whether the member is below the post; a place with no member carries the sign of the
 -- place before it. (N always has a member.) The mark of a post is settled by its signs.
-use Prim.Native.Nat.{ℕ, zero, suc, _+_, _-_, _*_, _≤_, _<_}
+use Prim.Native.Nat.{ℕ, _+_, _-_, _≤_}
 use native.Mathlib.Omega.{arith}
 use mathlib.Core.Path.{_≡_, refl, sym, _∙_, ap, ap₂}
 use mathlib.Core.Bool.{Bool, true, false, cond, not, _&&_, _||_}

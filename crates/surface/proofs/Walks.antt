@@ -1,15 +1,15 @@
 -- Law 5, walks: over any strict total order, any rings of vertices and any choice among the lower neighbours, a walk falls at every step and comes to an
 -- end within as many steps as there are posts. Downward that is a water line's walk to a pit; upward, in the reversed order, a crest line's to a peak.
-use Prim.Native.Nat.{ℕ, zero, suc, _+_, _-_, _*_, _≤_, _<_}
+use Prim.Native.Nat.{ℕ, zero, suc, _+_, _-_, _≤_, _<_}
 use native.Mathlib.Omega.{arith}
-use mathlib.Core.Path.{_≡_, refl, sym, _∙_, ap, ap₂, subst}
-use mathlib.Core.Logic.{_⊎_, ⊎-elim, inl, inr}
-use mathlib.Core.Bool.{Bool, true, false, cond, not, _&&_, _||_, true≢false, or-true}
+use mathlib.Core.Path.{_≡_, refl, sym, _∙_, ap, subst}
+use mathlib.Core.Logic.{_⊎_, ⊎-elim}
+use mathlib.Core.Bool.{Bool, true, false, cond, _||_, true≢false, or-true}
 use mathlib.Core.List.{List, [], _∷_, _++_, List·Memᴰ, List·Memᴰ·head, List·Memᴰ·tail, List·Memᴰ·cases-cons, List·Memᴰ·not-nil, Memᴰ·append-right}
 use lib.Dec.{eqb}
 use lib.ListN.{length, getD}
-use borrow.Author.Tests.{eqb-true, eq-eqb, ne-eqb, not-true, not-false}
-use Rattle.surface.specs.Lists.{filter, any, keep, lastOr, one}
+use borrow.Author.Tests.{eq-eqb, not-false}
+use Rattle.surface.specs.Lists.{filter, any, keep, lastOr}
 use Rattle.surface.specs.Plot.{virtualPit}
 use Rattle.surface.specs.Lines.{isEnd, next, walk, end, line, fallsFrom}
 use Rattle.surface.specs.Edges.{lowerRuns}

@@ -1,17 +1,15 @@
 -- The whole outcome of each call: its answer, and every list that it may write as it stands afterwards, accepted or refused. (A list lent to be read
 -- cannot be written.)
 -- An accepted call answers 0, 0 and its values. A refused one answers its number and place and 0 for each value, and leaves every list.
-use Prim.Native.Nat.{ℕ, zero, suc, _+_, _*_}
-use mathlib.Core.Bool.{Bool, true, false, cond}
-use mathlib.Core.List.{List, [], _∷_, _++_}
-use lib.Dec.{eqb}
+use Prim.Native.Nat.{ℕ, _+_, _*_}
+use mathlib.Core.List.{List, _++_}
 use lib.IntN.{ℤ}
 use lib.ListN.{length, getD, set, drop}
 use Rattle.surface.specs.Plot.{below, reversed}
 use Rattle.surface.specs.Marks.{marksOf, redrawn, peaks, pits, saddles}
 use Rattle.surface.specs.Lines.{nextDown, nextUp, thalweg, ridge, dalesOf, hillsOf}
 use Rattle.surface.specs.SurveyFile.{heightsIn, fileOf}
-use Rattle.surface.specs.Refusals.{Verdict, isAccepted, settled, surveyVerdict, reshootVerdict, nextVerdict, lineVerdict, partsVerdict, readVerdict, writeVerdict}
+use Rattle.surface.specs.Refusals.{Verdict, settled, surveyVerdict, reshootVerdict, nextVerdict, lineVerdict, partsVerdict, readVerdict, writeVerdict}
 use Rattle.surface.specs.declared.Answer.{Answer}
 use Rattle.surface.specs.declared.Counts.{Counts}
 use Rattle.surface.specs.declared.Next.{Next}

@@ -1,10 +1,10 @@
 -- Document 01, "Edges". Everything here is over any height order and any choice of diagonals; document 01's choice is `throughLowest`.
-use Prim.Native.Nat.{ℕ, suc, _+_, _-_, _*_, _<_}
+use Prim.Native.Nat.{ℕ, _+_, _-_, _*_, _<_}
 use mathlib.Core.Path.{_≡_}
 use mathlib.Core.Bool.{Bool, true, false, cond, not, _&&_, _||_}
 use mathlib.Core.List.{List, [], _∷_, _++_}
 use lib.Dec.{T, eqb}
-use Rattle.surface.specs.Lists.{keep, filter, any, all, takeWhile, lastOr}
+use Rattle.surface.specs.Lists.{keep, all, takeWhile, lastOr}
 use Rattle.surface.specs.Plot.{row, column, virtualPit, reversed}
 
 -- the lowest of x and the members of a list, in an order

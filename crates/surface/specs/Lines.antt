@@ -1,8 +1,7 @@
 -- Document 01, "Lines, dales and hills". Stated once, over any order, rings and choice among lower neighbours: a thalweg is a line downward, a ridge
 -- a line upward, which is a line in the reversed order; dales and hills likewise.
-use Prim.Native.Nat.{ℕ, zero, suc, _*_, _<_}
-use mathlib.Core.Path.{_≡_}
-use mathlib.Core.Bool.{Bool, true, false, cond, not, _&&_, _||_}
+use Prim.Native.Nat.{ℕ, zero, suc, _*_}
+use mathlib.Core.Bool.{Bool, true, cond, not, _&&_, _||_}
 use mathlib.Core.List.{List, [], _∷_}
 use lib.Dec.{eqb}
 use lib.IntN.{ℤ}

@@ -1,6 +1,6 @@
 -- Words for lists that the sections of document 01 share. Places in a list count from 0.
 use Prim.Native.Nat.{ℕ, zero, suc, _+_}
-use mathlib.Core.Bool.{Bool, true, false, cond, not, _&&_, _||_}
+use mathlib.Core.Bool.{Bool, true, false, cond, _&&_, _||_}
 use mathlib.Core.List.{List, [], _∷_, _++_}
 
 -- f 0, f 1, .. f (n - 1)

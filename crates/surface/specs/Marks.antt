@@ -1,12 +1,12 @@
 -- Document 01, "Marks and counts". Over any order and any rings; document 01's own are `markAt` and `marksOf`.
 use Prim.Native.Nat.{ℕ, suc, _+_, _-_, _*_}
-use mathlib.Core.Bool.{Bool, true, false, cond, not, _&&_, _||_}
-use mathlib.Core.List.{List, [], _∷_, map}
+use mathlib.Core.Bool.{Bool, cond, not, _&&_}
+use mathlib.Core.List.{List, map}
 use lib.Dec.{leb, eqb}
 use lib.IntN.{ℤ}
-use lib.ListN.{length, getD, set}
+use lib.ListN.{length, getD}
 use Rattle.surface.specs.Lists.{listOf, any, count, total}
-use Rattle.surface.specs.Plot.{row, column, below, reversed}
+use Rattle.surface.specs.Plot.{row, column, below}
 use Rattle.surface.specs.Edges.{ring, throughLowest, lowerRuns}
 
 -- 1 peak: no neighbour is above. 2 pit: no neighbour is below. 0 ordinary: one lower run and some neighbour above. 3, 4, 5: a saddle of 2, 3, 4 lower runs

@@ -1,15 +1,14 @@
 -- Document 01, "What the panel shows when a call is turned away": the table, and for each call the rows that it has a use for, in order.
-use Prim.Native.Nat.{ℕ, zero, suc, _+_, _-_, _*_}
-use mathlib.Core.Bool.{Bool, true, false, cond, not, _&&_, _||_}
-use mathlib.Core.List.{List, [], _∷_, map}
-use lib.Dec.{leb, ltb, eqb}
+use Prim.Native.Nat.{ℕ, _-_, _*_}
+use mathlib.Core.Bool.{Bool, cond, not, _&&_, _||_}
+use mathlib.Core.List.{List, [], _∷_}
+use lib.Dec.{ltb, eqb}
 use lib.IntN.{ℤ}
 use lib.ListN.{length, getD}
 use Rattle.surface.specs.Lists.{firstNot}
-use Rattle.surface.specs.Plot.{isSide, isHeight, below, reversed}
+use Rattle.surface.specs.Plot.{isSide, isHeight}
 use Rattle.surface.specs.Edges.{lowerRuns}
 use Rattle.surface.specs.Marks.{ringOf, markAt}
-use Rattle.surface.specs.Lines.{thalweg, ridge}
 use Rattle.surface.specs.SurveyFile.{statedCount, countFor, fileSize, isTenths, tenthsOf}
 
 -- a row of the table: when it holds, what is returned and the place

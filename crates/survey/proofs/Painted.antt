@@ -1,22 +1,20 @@
 -- A block of rows and columns stored afresh, a row at a time.
-use Prim.Native.Nat.{ℕ, suc, _+_, _-_, _*_, _≤_, _<_, min}
+use Prim.Native.Nat.{ℕ, _+_, _-_, _*_, _≤_, _<_, min}
 use native.Mathlib.Omega.{arith}
-use native.Mathlib.Nat.{add-mul, one-mul, mul-le-mul-right}
 use native.Mathlib.Decide.{ℕ-discrete}
 use mathlib.Core.Path.{_≡_, refl, sym, _∙_, ap, ap₂}
-use mathlib.Core.Bool.{Bool, true, false, cond, not, _&&_, and-false, true≢false}
+use mathlib.Core.Bool.{Bool, true, false, cond, _&&_, and-false, true≢false}
 use mathlib.Core.List.{List}
 use lib.Dec.{leb, ltb}
 use lib.IntN.{ℤ}
 use lib.ListN.{length, getD}
 use lib.Seq.{ext-getD}
-use borrow.Author.Tests.{leb-true, leb-false, ltb-true, ltb-false, le-leb, lt-leb, lt-ltb, le-ltb}
-use Rattle.surface.specs.Lists.{listOf}
+use borrow.Author.Tests.{leb-true, ltb-true, le-leb, lt-ltb, le-ltb}
 use Rattle.surface.specs.Plot.{row, column}
 use Rattle.surface.specs.Marks.{near, touches, markAt, redrawn}
 use Rattle.surface.proofs.Bools.{either, same-test, and-left, and-right}
 use Rattle.surface.proofs.ListOf.{length-listOf, getD-listOf}
-use Rattle.surface.proofs.Grid.{Sides, post-is, row-is, column-is, column-lt, row-lt}
+use Rattle.surface.proofs.Grid.{Sides, post-is, row-is, column-lt, row-lt}
 use Rattle.plot.specs.Stores.{stores}
 use Rattle.plot.proofs.Stores.{length-stores, stores-in, stores-out}
 

@@ -2,8 +2,8 @@
 use plot::mark;
 use plot::row::falls_row;
 ghost use mathlib.Core.Path.{_≡_};
-ghost use Prim.Native.Nat.{ℕ, _+_, _-_, _*_, _≤_, _<_};
-ghost use lib.ListN.{length, getD};
+ghost use Prim.Native.Nat.{_+_, _-_, _*_, _≤_, _<_};
+ghost use lib.ListN.{length};
 ghost use Rattle.surface.specs.Marks.{markAt, marksOf};
 ghost use Rattle.plot.specs.Fits.{Fits};
 ghost use Rattle.plot.specs.Stores.{stores};

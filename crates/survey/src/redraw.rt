@@ -1,7 +1,7 @@
 // The marks round a post, after its height changed: those of the post and of the posts that touch it by side or corner.
 use crate::fill::mark_each;
 ghost use mathlib.Core.Path.{_≡_};
-ghost use Prim.Native.Nat.{_+_, _-_, _*_, _≤_, _<_, min};
+ghost use Prim.Native.Nat.{_+_, _-_, _*_, _<_, min};
 ghost use lib.ListN.{length};
 ghost use Rattle.surface.specs.Marks.{redrawn};
 ghost use Rattle.plot.specs.Fits.{Fits};

@@ -51,31 +51,19 @@ impl Plot<'_> {
         (self.heights[p], p) < (self.heights[q], q)
     }
 
-    fn lowest(&self, vertices: &[usize]) -> usize {
-        let mut best = vertices[0];
-        for &v in vertices {
-            if self.below(v, best) {
-                best = v;
-            }
-        }
-        best
-    }
-
-    fn highest(&self, vertices: &[usize]) -> usize {
-        let mut best = vertices[0];
-        for &v in vertices {
-            if self.below(best, v) {
-                best = v;
-            }
-        }
-        best
-    }
-
+    /// The lowest, or the highest.
     pub fn extreme(&self, way: Way, vertices: &[usize]) -> usize {
-        match way {
-            Way::Down => self.lowest(vertices),
-            Way::Up => self.highest(vertices),
+        let mut best = vertices[0];
+        for &v in vertices {
+            let further = match way {
+                Way::Down => self.below(v, best),
+                Way::Up => self.below(best, v),
+            };
+            if further {
+                best = v;
+            }
         }
+        best
     }
 
     /// The neighbour at a place of the ring, the virtual pit left out.
@@ -87,7 +75,7 @@ impl Plot<'_> {
         }
         // The cell that has both at opposite corners is cut through its lowest post.
         let cell = [post, self.at(post, r, 0)?, self.at(post, 0, c)?, other];
-        let lowest = self.lowest(&cell);
+        let lowest = self.extreme(Way::Down, &cell);
         (lowest == post || lowest == other).then_some(other)
     }
 

@@ -1,19 +1,18 @@
 -- `survey::reshoot` meets its contract: a refusal is handed on, and an accepted call puts the height in and redraws the marks round it.
-use Prim.Native.Nat.{_*_, _≤_, _<_}
-use mathlib.Core.Path.{_≡_, refl, sym, _∙_, ap}
+use Prim.Native.Nat.{_*_, _<_}
+use mathlib.Core.Path.{_≡_, sym, _∙_, ap}
 use mathlib.Core.Bool.{true}
 use native.Mathlib.Omega.{arith}
 use mir.Syntax.{w32}
 use mir.Val.{toZ, ofZ}
 use borrow.Author.Needs.{needs}
-use lib.ListN.{length, set, length-set}
+use lib.ListN.{length, length-set}
 use Rattle.surface.specs.Plot.{isHeight}
 use Rattle.surface.specs.Refusals.{Verdict, reshootVerdict}
 use Rattle.surface.specs.Calls.{answer, reshootAnswer}
 use Rattle.surface.specs.declared.Answer.{Answer}
 use Rattle.surface.proofs.Accepted.{Plotted, reshoot-plotted}
 use Rattle.surface.proofs.MarkCalls.{reshoot-kept, reshoot-filled}
-use Rattle.plot.specs.Fits.{Fits}
 use Rattle.plot.proofs.Sizes.{plotted-fits}
 use Rattle.survey.proofs.reshoot.Statement.{statement}
 use Rattle.survey.proofs.reshoot.Tie as tie

@@ -1,6 +1,6 @@
 -- `survey::survey` meets its contract: a refusal is handed on, and what an accepted call was given is a plot.
-use Prim.Native.Nat.{_*_, _≤_}
-use mathlib.Core.Path.{_≡_, refl, sym, _∙_, ap}
+use Prim.Native.Nat.{_*_}
+use mathlib.Core.Path.{_≡_, sym, _∙_, ap}
 use native.Mathlib.Omega.{arith}
 use borrow.Author.Needs.{needs}
 use lib.ListN.{length}
@@ -8,7 +8,6 @@ use Rattle.surface.specs.Refusals.{Verdict, surveyVerdict}
 use Rattle.surface.specs.declared.Answer.{Answer}
 use Rattle.surface.proofs.Accepted.{Plotted, survey-plotted}
 use Rattle.surface.proofs.MarkCalls.{survey-refused, survey-kept, survey-served, survey-filled}
-use Rattle.plot.specs.Fits.{Fits}
 use Rattle.plot.proofs.Sizes.{plotted-fits}
 use Rattle.plot.proofs.Rows.{fits-small}
 use Rattle.survey.proofs.survey.Statement.{statement}

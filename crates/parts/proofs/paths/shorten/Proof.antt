@@ -1,5 +1,5 @@
 -- `parts::paths::shorten` meets its contract. The loop's invariant: paths end where they did, and the posts passed have their ends as entries.
-use Prim.Native.Nat.{ℕ, _+_, _-_, _≤_, _<_}
+use Prim.Native.Nat.{ℕ, _-_, _≤_, _<_}
 use native.Mathlib.Omega.{arith}
 use mathlib.Core.Path.{_≡_, refl, sym, _∙_}
 use borrow.Author.Needs.{needs}

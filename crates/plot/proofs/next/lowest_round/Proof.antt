@@ -1,7 +1,7 @@
 -- Each step asks that the next post is numbered before, or after, what was found: the bounds that the steps before it give.
 use Prim.Native.Nat.{_+_, _-_, _<_, _≤_}
 use native.Mathlib.Omega.{arith}
-use mathlib.Core.Path.{_≡_, sym, _∙_, ap}
+use mathlib.Core.Path.{sym, _∙_, ap}
 use Rattle.surface.specs.Plot.{height}
 use Rattle.plot.specs.Scan.{toward}
 use Rattle.plot.proofs.Steps.{scan-end, scan-step, wide-back, wide-ahead}

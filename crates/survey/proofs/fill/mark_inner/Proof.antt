@@ -1,7 +1,7 @@
 -- `survey::fill::mark_inner` meets its contract. The loop's invariant: c - 1 stores were made.
-use Prim.Native.Nat.{ℕ, _+_, _-_, _≤_, _<_}
+use Prim.Native.Nat.{_+_, _-_, _≤_}
 use native.Mathlib.Omega.{arith}
-use mathlib.Core.Path.{_≡_, refl, sym, _∙_}
+use mathlib.Core.Path.{_≡_, refl, _∙_}
 use lib.ListN.{length, length-set}
 use Rattle.surface.specs.Marks.{markAt}
 use Rattle.plot.specs.Stores.{stores}

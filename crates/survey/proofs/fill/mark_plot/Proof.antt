@@ -1,11 +1,11 @@
 -- `survey::fill::mark_plot` meets its contract: the rows one after the other, down to the last.
-use Prim.Native.Nat.{_+_, _-_, _*_}
+use Prim.Native.Nat.{_-_, _*_}
 use native.Mathlib.Omega.{arith}
-use mathlib.Core.Path.{refl, _∙_}
+use mathlib.Core.Path.{_∙_}
 use borrow.Author.Needs.{needs}
 use Rattle.surface.specs.Marks.{markAt, marksOf}
 use Rattle.plot.proofs.Stores.{stores-join, stores-all}
-use Rattle.plot.proofs.Rows.{fits-two, fits-small}
+use Rattle.plot.proofs.Rows.{fits-two}
 use Rattle.survey.proofs.fill.mark_plot.Statement.{statement}
 use Rattle.survey.proofs.fill.mark_plot.Tie as tie
 

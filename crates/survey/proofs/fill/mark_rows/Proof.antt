@@ -1,5 +1,5 @@
 -- `survey::fill::mark_rows` meets its contract. The loop's invariant: the rows above row r are marked, and the diagonals just above it are told.
-use Prim.Native.Nat.{ℕ, _+_, _-_, _*_, _≤_, _<_}
+use Prim.Native.Nat.{ℕ, _+_, _-_, _*_, _≤_}
 use native.Mathlib.Omega.{arith}
 use mathlib.Core.Path.{_≡_, refl, _∙_, ap}
 use borrow.Author.Needs.{needs}

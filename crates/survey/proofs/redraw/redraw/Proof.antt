@@ -1,13 +1,12 @@
 -- `survey::redraw::redraw` meets its contract. The loop's invariant: the block is redrawn down to row r.
-use Prim.Native.Nat.{ℕ, _+_, _-_, _*_, _≤_, _<_, min}
+use Prim.Native.Nat.{_+_, _-_, _*_, _≤_, _<_, min}
 use native.Mathlib.Omega.{arith}
-use native.Mathlib.Nat.{mul-le-mul-right, add-mul, one-mul, mod-lt, div-lt-iff-lt-mul}
-use mathlib.Core.Path.{_≡_, refl, sym, _∙_, ap, subst}
+use native.Mathlib.Nat.{mul-le-mul-right, add-mul, one-mul}
+use mathlib.Core.Path.{_≡_, _∙_}
 use borrow.Author.Needs.{needs}
-use lib.ListN.{length}
 use Rattle.surface.specs.Marks.{markAt}
 use Rattle.surface.specs.Plot as Plot
-use Rattle.surface.proofs.Grid.{Sides, column-lt, row-lt}
+use Rattle.surface.proofs.Grid.{column-lt, row-lt}
 use Rattle.plot.proofs.Rows.{fits-sides, fits-small}
 use Rattle.survey.proofs.Painted.{Painted, painted-none, painted-more, painted-redrawn}
 use Rattle.survey.proofs.redraw.redraw.Statement.{statement}

@@ -1,16 +1,13 @@
 -- `survey::tally::count` meets its contract. The loop's invariant: each count is what was passed, and what is left makes up the rest.
-use Prim.Native.Nat.{ℕ, _+_, _-_, _*_, _≤_}
+use Prim.Native.Nat.{_+_, _-_, _*_, _≤_}
 use native.Mathlib.Omega.{arith}
-use mathlib.Core.Path.{_≡_, refl}
-use mathlib.Core.Bool.{Bool}
-use mathlib.Core.List.{List, map}
-use borrow.Author.Needs.{needs}
+use mathlib.Core.Path.{_≡_}
+use mathlib.Core.List.{map}
 use lib.Dec.{eqb}
-use lib.ListN.{length, drop, getD}
+use lib.ListN.{length, drop}
 use Rattle.surface.specs.Lists.{count, total}
 use Rattle.surface.specs.Marks.{multiplicity, peaks, pits, saddles}
 use Rattle.surface.proofs.Scans.{count-pass, count-end, total-pass, total-end}
-use Rattle.survey.specs.Tally.{Counted}
 use Rattle.survey.proofs.tally.count.Statement.{statement}
 use Rattle.survey.proofs.tally.count.Tie as tie
 

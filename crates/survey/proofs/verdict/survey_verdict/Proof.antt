@@ -1,5 +1,5 @@
 -- `survey::verdict::survey_verdict` meets its contract, return by return.
-use mathlib.Core.Path.{_≡_, sym, _∙_, ap}
+use mathlib.Core.Path.{sym, _∙_, ap}
 use native.Mathlib.Omega.{arith}
 use borrow.Author.Needs.{needs}
 use borrow.Author.Tests.{eq-eqb, ne-eqb}
@@ -7,7 +7,6 @@ use mathlib.Core.Bool.{not}
 use Rattle.surface.specs.Refusals.{surveyVerdict}
 use Rattle.surface.specs.Calls.{answer}
 use Rattle.surface.proofs.Verdicts.{row-holds, row-passed}
-use Rattle.plot.specs.Fits.{Fits}
 use Rattle.plot.proofs.Rows.{fits-small}
 use Rattle.survey.proofs.verdict.survey_verdict.Statement.{statement}
 use Rattle.survey.proofs.verdict.survey_verdict.Tie as tie
