@@ -1,7 +1,6 @@
 -- Paths that come to an end, and what shortening them keeps.
 use Prim.Native.Nat.{ℕ, zero, suc, _+_, _≤_, _<_}
 use native.Mathlib.Omega.{arith}
-use native.Mathlib.Nat.{zero-add, suc-add}
 use mathlib.Core.Path.{_≡_, refl, sym, _∙_, ap}
 use mathlib.Core.Logic.{_⊎_, ⊎-elim}
 use mathlib.Core.Bool.{Bool, true, false, cond}
@@ -34,15 +33,17 @@ module _ (l : List ℕ) where
   after-stays zero p h = refl
   after-stays (suc k) p h = rw h (after-stays k p h)
 
+  -- the post that p's entry names, or p where it names none, has what two steps lead to as its entry
+  pub two-steps : (p : ℕ) → p < length l → (b : Bool) → ltb (getD l p 0) (length l) ≡ b
+      → (cond b (getD l p 0) p < length l) × (follow l (cond b (getD l p 0) p) ≡ after l 2 p)
+  unfolding after
+  two-steps p h true k = (ltb-true (getD l p 0) (length l) k, ap (follow l) (entry l p 0 p h))
+  two-steps p h false k = (h, sym (outside (follow l p) (omega (arith, ltb-false (getD l p 0) (length l) k, entry l p 0 p h))))
+
   after-one : (k p : ℕ) → after l k (follow l p) ≡ follow l (after l k p)
   unfolding after
   after-one zero p = refl
   after-one (suc k) p = after-one k (follow l p)
-
-  pub after-add : (j k p : ℕ) → after l j (after l k p) ≡ after l (k + j) p
-  unfolding after
-  after-add j zero p = rw (zero-add j)
-  after-add j (suc k) p = rw (suc-add k j) (after-add j k (follow l p))
 
   after-swap : (j k p : ℕ) → after l j (after l k p) ≡ after l k (after l j p)
   unfolding after
@@ -85,6 +86,10 @@ module _ {l : List ℕ} (ends : Ends l) where
   pub same-end : (k p : ℕ) → endIn l (after l k p) ≡ endIn l p
   same-end k p = after-swap l (length l) k p ∙ after-stays l k (endIn l p) (ends .stays p)
 
+  -- where a further step does not move, the steps have led to the end
+  pub end-after : (k p : ℕ) → follow l (after l k p) ≡ after l k p → endIn l p ≡ after l k p
+  end-after k p h = sym (same-end k p) ∙ after-stays l (length l) (after l k p) h
+
   no-farther : (k p : ℕ) → stepsIn l (after l k p) ≤ stepsIn l p
   unfolding after
   no-farther zero p = omega arith
@@ -126,13 +131,14 @@ module _ {l : List ℕ} (ends : Ends l) where
     unfolding after
     shorter-told p h = let a = s .along p in a .1 ∙ ap (after l (a .0)) h ∙ after-stays l (a .0) (endIn l p) (ends .stays p)
 
-    -- what the posts before p have, those up to p have where p has it
-    pub told-more : (p : ℕ) → ((q : ℕ) → q < p → follow l q ≡ endIn l q) → follow l′ p ≡ endIn l p → (q : ℕ) → q < p + 1 → follow l′ q ≡ endIn l′ q
-    told-more p t h q k = go (ℕ-discrete q p) ∙ sym (shorter-end q)
+    -- what the posts met before turn i have, those up to it have where its post has it, in whatever order they are met
+    pub told-more : (at : ℕ → ℕ) (i : ℕ) → ((j : ℕ) → j < i → follow l (at j) ≡ endIn l (at j)) → follow l′ (at i) ≡ endIn l (at i)
+        → (j : ℕ) → j < i + 1 → follow l′ (at j) ≡ endIn l′ (at j)
+    told-more at i t h j k = go (ℕ-discrete j i) ∙ sym (shorter-end (at j))
       where
-        go : Dec (q ≡ p) → follow l′ q ≡ endIn l q
+        go : Dec (j ≡ i) → follow l′ (at j) ≡ endIn l (at j)
         go (yes e) = rw e h
-        go (no e) = shorter-told q (t q (omega arith))
+        go (no e) = shorter-told (at j) (t j (omega arith))
 
     pub shorter-ends : Ends l′
     shorter-ends = record { stays = λ p. rw (shorter-end p) (stays-too (endIn l p) (ends .stays p)) }
@@ -164,28 +170,14 @@ module _ {l l′ : List ℕ} (s : Shorter l l′) (e : ℕ) where
   pub read-nearer : Ends l → Under → stepsIn l (getD l′ e 0) < stepsIn l e
   read-nearer ends u = omega (arith, ap (stepsIn l) (read (u .inside)), along-nearer ends (s .along e .0) e (u .moves))
 
-  -- a store of what stands further along
-  store-along : e < length l → (x k : ℕ) → x ≡ after l (suc k) e → Shorter l (set l′ e x)
-  store-along h x k v = record { size = length-set l′ e x ∙ s .size; along = λ q. go q (ℕ-discrete q e) }
-    where
-      go : (q : ℕ) → Dec (q ≡ e) → (k : ℕ) × (follow (set l′ e x) q ≡ after l (suc k) q)
-      go q (yes i) = (k, rw i (getD-set-same l′ e x e (omega (arith, s .size)) ∙ v))
-      go q (no i) = let a = s .along q in (a .0, getD-set-other l′ e q x q i ∙ a .1)
-
+  -- a store of the end
   pub store-end : Ends l → e < length l → (x : ℕ) → endIn l e ≡ x → Shorter l (set l′ e x)
   unfolding after
-  store-end ends h x v = store-along h x (length l) (sym v ∙ sym (same-end ends 1 e))
-
-  -- the entry of the post that e's entry names, where it names one
-  pub store-ahead : e < length l → (b : Bool) → (b ≡ true → getD l′ e 0 < length l)
-      → Shorter l (set l′ e (getD l′ (cond b (getD l′ e 0) e) 0))
-  unfolding after
-  store-ahead h true k =
-      let q = getD l′ e 0 in
-      let m = s .along q in
-      store-along h (getD l′ q 0) (s .along e .0 + suc (m .0))
-      (entry l′ q 0 q (omega (arith, s .size, k refl)) ∙ m .1 ∙ ap (after l (suc (m .0))) (read h) ∙ after-add l (suc (m .0)) (s .along e .0) (follow l e))
-  store-ahead h false k = store-along h (getD l′ e 0) (s .along e .0) (read h)
+  store-end ends h x v = record { size = length-set l′ e x ∙ s .size; along = λ q. go q (ℕ-discrete q e) }
+    where
+      go : (q : ℕ) → Dec (q ≡ e) → (k : ℕ) × (follow (set l′ e x) q ≡ after l (suc k) q)
+      go q (yes i) = (length l, rw i (getD-set-same l′ e x e (omega (arith, s .size)) ∙ sym v ∙ sym (same-end ends 1 e)))
+      go q (no i) = let a = s .along q in (a .0, getD-set-other l′ e q x q i ∙ a .1)
 
 -- an entry stays x where every store is of x
 pub stored : (l : List ℕ) (e p x : ℕ) → e < length l → (e ≡ p) ⊎ (follow l p ≡ x) → follow (set l e x) p ≡ x

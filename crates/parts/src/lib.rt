@@ -44,7 +44,7 @@ pub fn dales_and_hills(
         return answer;
     }
     fill_nexts(heights, rows as usize, columns as usize, dales, hills);
-    shorten(dales);
-    shorten(hills);
+    shorten(dales, false);
+    shorten(hills, true);
     answer
 }

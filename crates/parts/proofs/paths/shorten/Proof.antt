@@ -1,7 +1,8 @@
--- `parts::paths::shorten` meets its contract. The loop's invariant: paths end where they did, and the posts passed have their ends as entries.
+-- `parts::paths::shorten` meets its contract. The loop's invariant: paths end where they did, and the posts met have their ends as entries.
 use Prim.Native.Nat.{ℕ, _-_, _≤_, _<_}
 use native.Mathlib.Omega.{arith}
 use mathlib.Core.Path.{_≡_, refl, sym, _∙_}
+use mathlib.Core.Bool.{Bool, true, false, cond}
 use borrow.Author.Needs.{needs}
 use lib.ListN.{length}
 use lib.Seq.{ext-getD}
@@ -12,68 +13,86 @@ use Rattle.parts.proofs.Shorter.{entry, shorter-end, shorter-ends, told
 use Rattle.parts.proofs.paths.shorten.Statement.{statement}
 use Rattle.parts.proofs.paths.shorten.Tie as tie
 
+-- the post of turn i
+abbrev met : Bool → ℕ → ℕ → ℕ
+met back n i = cond back (n - 1 - i) i
+
+met-in : (back : Bool) (n i : ℕ) → i < n → met back n i < n
+met-in true n i h = omega arith
+met-in false n i h = h
+
+-- every post is met: at the turn that the same order gives it
+met-all : (back : Bool) (n p : ℕ) → p < n → met back n (met back n p) ≡ p
+met-all true n p h = omega arith
+met-all false n p h = refl
+
 abbrev Inv-loop : tie.InvT-loop
-Inv-loop list₀ p₀ list p =
-    (p ≤ length list)
-    × (length list ≡ length list₀)
+Inv-loop list₀ back n i₀ list i =
+    (i ≤ n)
+    × (length list ≡ n)
     × Ends list
     × ((q : ℕ) → endIn list q ≡ endIn list₀ q)
-    × ((q : ℕ) → q < p → follow list q ≡ endIn list q)
+    × ((j : ℕ) → j < i → follow list (met back n j) ≡ endIn list (met back n j))
 
 abbrev μ-loop : tie.MeasureT-loop
-μ-loop list₀ p₀ list p = length list - p
-
-skip-ahead-requires : tie.Need-skip-ahead-requires Inv-loop μ-loop
-skip-ahead-requires c κs = search needs
+μ-loop list₀ back n i₀ list i = n - i
 
 loop-holds : tie.Need-loop-holds Inv-loop μ-loop
-loop-holds c =
-    let k = c .before .before in
-    (omega arith, refl, shorter-ends (k .before .before .before .pre) (k .skip-ahead .ensures), λ q. refl, λ q h. absurd (omega arith))
+loop-holds c = (omega arith, refl, c .before .pre, λ q. refl, λ j h. absurd (omega arith))
 
-end-of-requires : tie.Need-end-of-requires Inv-loop μ-loop
-end-of-requires c κs = (c .before .before .loop .inv .2, c .before .loop-test .taken)
+sub-choose : tie.Need-sub-choose Inv-loop μ-loop
+sub-choose c = omega arith
 
-shorten-path-requires : tie.Need-shorten-path-requires Inv-loop μ-loop
-shorten-path-requires c κs =
-    let l = c .before .before .before .before in
-    (l .loop .inv .2, c .before .before .before .loop-test .taken, c .before .end-of .ensures)
+sub-choose-2 : tie.Need-sub-choose-2 Inv-loop μ-loop
+sub-choose-2 c = omega arith
 
-add-p : tie.Need-add-p Inv-loop μ-loop
-add-p c = omega arith
+choose-requires : tie.Need-choose-requires Inv-loop μ-loop
+choose-requires c κs = search needs
+
+settle-requires : tie.Need-settle-requires Inv-loop μ-loop
+settle-requires c κs =
+    let l = c .before .before .before in
+    let a = l .before .before .args in
+    let h = met-in (a .back) (length (a .list .now)) (l .loop .i) (c .before .before .loop-test .taken) in
+    (l .loop .inv .2, rw (c .before .choose .ensures, l .loop .inv .1) h)
+
+add-i : tie.Need-add-i Inv-loop μ-loop
+add-i c = omega arith
 
 loop-less : tie.Need-loop-less Inv-loop μ-loop
 loop-less c = omega arith
 
 loop-again : tie.Need-loop-again Inv-loop μ-loop
 loop-again c =
-    let l = c .before .before .before .before .before .before .before .loop in
-    let s = c .before .before .shorten-path .ensures in
-    let ends = l .inv .2 in (
-      omega (arith, s .0 .size),
-      s .0 .size ∙ l .inv .1,
+    let t = c .before .before in
+    let l = t .before .before .before .before in
+    let a = l .before .before .args in
+    let s = t .settle .ensures in
+    let ends = l .loop .inv .2 in
+    let at = met (a .back) (length (a .list .now)) in (
+      omega arith,
+      s .0 .size ∙ l .loop .inv .1,
       shorter-ends ends (s .0),
-      λ q. shorter-end ends (s .0) q ∙ l .inv .3 q,
-      told-more ends (s .0) (l .p) (l .inv .4) (s .1 ∙ c .before .before .before .before .end-of .ensures),
+      λ q. shorter-end ends (s .0) q ∙ l .loop .inv .3 q,
+      told-more ends (s .0) at (l .loop .i) (l .loop .inv .4) (rw (← t .before .before .choose .ensures) (s .1)),
     )
 
 same-length : tie.Need-same-length Inv-loop μ-loop
-same-length c = c .before .loop .inv .1 ∙ c .before .before .before .before .skip-ahead .ensures .size
+same-length c = c .before .loop .inv .1
 
 returns : tie.Need-returns Inv-loop μ-loop
 returns c =
     let l = c .before .loop in
-    let k = c .before .before .before .before in
-    let start = k .before .before .before in
-    let was = start .args .list .now in
-    let short = k .skip-ahead .ensures in
-    ext-getD 0 (l .list) (listOf (endIn was) (length was)) (l .inv .1 ∙ short .size ∙ sym (length-listOf (endIn was) (length was)))
+    let a = c .before .before .before .args in
+    let was = a .list .now in
+    let n = length was in
+    ext-getD 0 (l .list) (listOf (endIn was) n) (l .inv .1 ∙ sym (length-listOf (endIn was) n))
     (λ q h.
+    let k : q < n = omega (arith, l .inv .1) in
     entry (l .list) q 0 q h
-    ∙ l .inv .4 q (omega arith)
+    ∙ rw (← met-all (a .back) n q k) (l .inv .4 (met (a .back) n q) (omega (arith, met-in (a .back) n q k)))
     ∙ l .inv .3 q
-    ∙ shorter-end (start .pre) short q
-    ∙ sym (getD-listOf (endIn was) (length was) q 0 (omega (arith, short .size))))
+    ∙ sym (getD-listOf (endIn was) n q 0 k))
 
 pub shorten-spec : {M : Type 1} → statement M
 shorten-spec =
@@ -81,11 +100,12 @@ shorten-spec =
     (tie.spec
     Inv-loop
     μ-loop
-    skip-ahead-requires
     loop-holds
-    end-of-requires
-    shorten-path-requires
-    add-p
+    sub-choose
+    sub-choose-2
+    choose-requires
+    settle-requires
+    add-i
     loop-less
     loop-again
     same-length
