@@ -1,10 +1,10 @@
 -- A line call's outcome, by the row that refuses it or by its entries.
-use Prim.Native.Nat.{ℕ, _+_, _≤_, _<_}
+use Prim.Native.Nat.{ℕ, _+_, _*_, _≤_, _<_}
 use native.Mathlib.Omega.{arith}
 use mathlib.Core.Path.{_≡_, sym, _∙_, ap}
 use mathlib.Core.Bool.{Bool}
 use mathlib.Core.List.{List, [], _∷_, _++_}
-use borrow.Author.Tests.{ne-eqb, lt-ltb, le-ltb}
+use borrow.Author.Tests.{ne-eqb, lt-ltb, le-ltb, ltb-true, not-false}
 use lib.IntN.{ℤ}
 use lib.ListN.{length, drop}
 use Rattle.surface.specs.Lists.{listOf}
@@ -13,11 +13,12 @@ use Rattle.surface.specs.Refusals.{Verdict, lineVerdict, row9}
 use Rattle.surface.specs.Calls.{lineAnswer, lineList}
 use Rattle.surface.specs.declared.Answer.{Answer}
 use Rattle.surface.specs.declared.Entries.{Entries}
-use Rattle.surface.proofs.Verdicts.{row-holds, row-passed, none-left}
+use Rattle.surface.proofs.Verdicts.{row-holds, row-passed, none-left, accepted-clear}
+use Rattle.surface.proofs.Walks.{line-falls}
 use Rattle.lines.specs.declared.table.Start.{Start}
-use Rattle.lines.specs.Directed.{walkOf, lineOf, entryOf, verdictOf}
+use Rattle.lines.specs.Directed.{walkOf, runsOf, lineOf, entryOf, verdictOf}
 use Rattle.lines.specs.Rows.{Placed, Started}
-use Rattle.lines.proofs.Walking.{line-entries}
+use Rattle.lines.proofs.Walking.{descent, line-entries}
 
 module _ (v : Verdict) (entries list : List ℕ) where
   abbrev pub Outcome : Entries → List ℕ → Type 0
@@ -46,30 +47,43 @@ module _ {rows columns : ℕ} {hs : List ℤ} {post : ℕ} {r : Answer} (a : Pla
     unfolding lineVerdict
     not-started k = refused v entries list (s .code) 0 k (a .passes h _ ∙ b .refuses k _)
 
-    -- `count` is what a walk to the line's end counts
-    module _ (k : s .code ≡ 0) (count : ℕ) (n : count ≡ 1 + length (walkOf rows columns hs up (s .post))) where
-      is-line : entries ≡ post ∷ walkOf rows columns hs up (s .post)
+    -- the line is the saddle and a walk, which is no longer than the plot
+    module _ (k : s .code ≡ 0) where
+      abbrev path : List ℕ
+      path = walkOf rows columns hs up (s .post)
+
+      is-line : entries ≡ post ∷ path
       unfolding line
       is-line = ap (λ (q : ℕ). post ∷ walkOf rows columns hs up q) (sym (b .starts k))
 
-      counted : count ≡ length entries
+      counted : length entries ≡ 1 + length path
       counted = rw is-line (omega arith)
 
-      pub too-long : length list < count → Outcome v entries list (record { code = 9; place = 0; count = 0 }) list
+      has-run : run < length (runsOf rows columns hs up post)
+      has-run = ltb-true run _ (not-false _ (accepted-clear _ tt (ap (λ (w : Verdict). w .code) (b .passes k [] ∙ none-left)) .1 .0))
+
+      pub short : length path ≤ rows * columns
+      short =
+          let f = line-falls (descent (a .fits h .0) up) post run (a .fits h .1) has-run in
+          omega (arith, f .2 .bound, ap length (sym (f .1) ∙ is-line))
+
+      pub too-long : length list ≤ length path → Outcome v entries list (record { code = 9; place = 0; count = 0 }) list
       unfolding lineVerdict
       too-long m =
           refused v entries list 9 0 (λ e. omega arith)
           (a .passes h _ ∙ b .passes k _ ∙ row-holds (row9 entries list) [] (lt-ltb (length list) (length entries) (omega (arith, counted))))
 
-      pub drawn : count ≤ length list → (after : List ℕ) → after ≡ listOf (entryOf rows columns hs up post (s .post)) count ++ drop count list
+      pub drawn : length path < length list → (count : ℕ) → count ≡ 1 + length path → (after : List ℕ)
+          → after ≡ listOf (entryOf rows columns hs up post (s .post)) count ++ drop count list
           → Outcome v entries list (record { code = 0; place = 0; count = count }) after
       unfolding lineVerdict
-      drawn m after e =
+      drawn m count n after e =
+          let c : count ≡ length entries = n ∙ sym counted in
           let l : listOf (entryOf rows columns hs up post (s .post)) count ≡ entries = rw n (sym (is-line ∙ line-entries rows columns hs up post (s .post))) in
           accepted v entries list count after
           (a .passes h _
           ∙ b .passes k _
           ∙ row-passed (row9 entries list) [] (le-ltb (length list) (length entries) (omega (arith, counted)))
           ∙ none-left)
-          counted
-          (rw (← counted, ← l) e)
+          c
+          (rw (← c, ← l) e)

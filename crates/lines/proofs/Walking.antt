@@ -1,5 +1,5 @@
 -- Walks in either direction over a plot: document 01's descent is one, and so is its ascent, in the reversed order.
-use Prim.Native.Nat.{ℕ, zero, suc, _+_, _-_, _*_, _≤_, _<_}
+use Prim.Native.Nat.{ℕ, zero, suc, _+_, _*_, _≤_, _<_}
 use native.Mathlib.Omega.{arith}
 use mathlib.Core.Path.{_≡_, refl, sym, _∙_, ap, subst}
 use mathlib.Core.Logic.{_⊎_, ⊎-elim}
@@ -80,13 +80,12 @@ module _ {rows columns : ℕ} {hs : List ℤ} (fits : Fits rows columns hs) wher
         → length (walkOf rows columns hs up p) ≡ 1 + length (walkOf rows columns hs up (nextOf rows columns hs up p))
     length-more p v e = rw (walk-next descent p v, e) (omega arith)
 
+    walk-some : (p : ℕ) → Vertex (rows * columns) p → 1 ≤ length (walkOf rows columns hs up p)
+    walk-some p v = rw (walk-next descent p v) (omega arith)
+
     pub vertex-next : (p : ℕ) → Vertex (rows * columns) p → Vertex (rows * columns) (nextOf rows columns hs up p)
     vertex-next p v =
         either (isEndOf rows columns hs up p) (λ e. subst (Vertex (rows * columns)) (sym (next-stop descent p e)) v) (λ e. next-step descent p v e .vertex)
-
-    -- one step more
-    pub after-more : (q i : ℕ) → 1 ≤ i → nextOf rows columns hs up (after rows columns hs up (i - 1) q) ≡ after rows columns hs up (i + 1 - 1) q
-    after-more q i h = sym (end-more descent (i - 1) q) ∙ ap (λ (m : ℕ). after rows columns hs up m q) (omega arith)
 
     pub length-low : (p : ℕ) → length (walkOf rows columns hs up p) ≤ 14401
     length-low p = omega (arith, walk-low (toward hs up) (ringOf rows columns hs) (lowestOf (toward hs up)) (rows * columns) p, few fits)
@@ -124,6 +123,10 @@ module _ {rows columns : ℕ} {hs : List ℤ} (fits : Fits rows columns hs) wher
       → rank (toward hs (from .up)) (rows * columns) (nextOf rows columns hs (at .up) (at .post)) < rank (toward hs (from .up)) (rows * columns) (at .post)
   along-sinks {from} {at} a h = rw (a .same) (next-step (descent fits (from .up)) (at .post) (a .vertex) (on a h) .sinks)
 
+  -- what is counted are entries of the walk
+  pub along-low : {from at : Walk} {entries : ℕ} → Along rows columns hs from at entries → entries ≤ length (walkOf rows columns hs (from .up) (from .post))
+  along-low {from} {at} a = omega (arith, a .counted, walk-some fits (from .up) (at .post) (a .vertex))
+
   pub along-end : {from at : Walk} {entries : ℕ} → Along rows columns hs from at entries → nextOf rows columns hs (at .up) (at .post) ≡ at .post
       → _≡_ {A = Followed} (record { end = at .post; entries = entries })
       (record { end = after rows columns hs (from .up) (rows * columns) (from .post); entries = length (walkOf rows columns hs (from .up) (from .post)) })
@@ -135,11 +138,6 @@ module _ {rows columns : ℕ} {hs : List ℤ} (fits : Fits rows columns hs) wher
 
 -- the entries of a line
 module _ (rows columns : ℕ) (hs : List ℤ) (up : Bool) (p q : ℕ) where
-  pub entry-after : (i : ℕ) → 1 ≤ i → entryOf rows columns hs up p q i ≡ after rows columns hs up (i - 1) q
-  unfolding entryOf
-  entry-after zero h = absurd (omega arith)
-  entry-after (suc i) h = ap (λ (m : ℕ). after rows columns hs up m q) (omega arith)
-
   pub line-entries : p ∷ walkOf rows columns hs up q ≡ listOf (entryOf rows columns hs up p q) (1 + length (walkOf rows columns hs up q))
   unfolding entryOf
   line-entries =
@@ -148,6 +146,13 @@ module _ (rows columns : ℕ) (hs : List ℤ) (up : Bool) (p q : ℕ) where
       rw e
       (ap (λ (l : List ℕ). p ∷ l) (walk-list (toward hs up) (ringOf rows columns hs) (lowestOf (toward hs up)) (rows * columns) q)
       ∙ sym (listOf-front (entryOf rows columns hs up p q) (length w)))
+
+-- one entry on is one step on
+pub entry-more : {rows columns : ℕ} {hs : List ℤ} → Fits rows columns hs → (up : Bool) (p q i : ℕ) → 1 ≤ i
+    → nextOf rows columns hs up (entryOf rows columns hs up p q i) ≡ entryOf rows columns hs up p q (i + 1)
+unfolding entryOf
+entry-more fits up p q zero h = absurd (omega arith)
+entry-more fits up p q (suc i) h = let e : suc i + 1 ≡ suc (suc i) = omega arith in rw e (sym (end-more (descent fits up) i q))
 
 -- the first entry stored
 pub filled-first : (f : ℕ → ℕ) (l : List ℕ) (x : ℕ) → 0 < length l → x ≡ f 0 → Filled f (set l 0 x) 1 (set l 0 x)

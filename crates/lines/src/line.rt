@@ -1,4 +1,4 @@
-// The line of a saddle and a run: walked once to count its entries and once to write them.
+// The line of a saddle and a run: walked to write its entries, and before that to count them where the list may be too short.
 use crate::table::placed;
 use crate::table::start_of;
 use crate::walk::Walk;
@@ -6,35 +6,53 @@ use crate::walk::follow;
 use surface::Entries;
 ghost use mathlib.Core.Path.{_≡_};
 ghost use mathlib.Core.List.{_++_};
-ghost use Prim.Native.Nat.{_*_, _≤_, _<_};
+ghost use Prim.Native.Nat.{_+_, _*_, _≤_, _<_};
+ghost use lib.Dec.{ltb};
 ghost use lib.ListN.{length, drop};
 ghost use Rattle.surface.specs.Lists.{listOf};
 ghost use Rattle.surface.specs.Calls.{lineAnswer, lineList};
 ghost use Rattle.surface.proofs.Walks.{Vertex};
 ghost use Rattle.plot.specs.Fits.{Fits};
-ghost use Rattle.lines.specs.Directed.{entryOf, lineOf, verdictOf};
+ghost use Rattle.lines.specs.Directed.{walkOf, entryOf, lineOf, verdictOf};
 
-// Writes `count` entries: p, and then the posts of a walk.
+// Whether a list of length `room` takes the line whose walk this is. A list longer than the heights takes every line, so that nothing is counted.
+fn has_room(heights: &[i32], rows: usize, columns: usize, from: Walk, room: usize) -> bool
+    requires { ⌜ Fits rows columns (now heights) × Vertex (rows * columns) (from .post) × (length (walkOf rows columns (now heights) (from .up) (from .post)) ≤ rows * columns) ⌝ }
+    ensures { λ r. ⌜ r ≡ ltb (length (walkOf rows columns (now (heights .entry)) (from .up) (from .post))) room ⌝ }
+{
+    if room <= heights.len() {
+        let walked = follow(heights, rows, columns, from);
+        return walked.entries < room;
+    }
+    true
+}
+
+// Writes p, and then the posts of a walk until its end; gives how many entries that is.
 fn write_entries(
     heights: &[i32],
     rows: usize,
     columns: usize,
     p: usize,
     from: Walk,
-    count: usize,
     line: &mut [u16],
-)
-    requires { ⌜ Fits rows columns (now heights) × (p < rows * columns) × Vertex (rows * columns) (from .post) × (1 ≤ count) × (count ≤ length (now line)) ⌝ }
-    ensures { λ _. ⌜ now (line .exit) ≡ listOf (entryOf rows columns (now (heights .entry)) (from .up) p (from .post)) count ++ drop count (now (line .entry)) ⌝ }
+) -> usize
+    requires { ⌜ Fits rows columns (now heights) × (p < rows * columns) × Vertex (rows * columns) (from .post) × (1 + length (walkOf rows columns (now heights) (from .up) (from .post)) ≤ length (now line)) ⌝ }
+    ensures { λ r. ⌜ r ≡ 1 + length (walkOf rows columns (now (heights .entry)) (from .up) (from .post)) ⌝ }
+    ensures { λ r. ⌜ now (line .exit) ≡ listOf (entryOf rows columns (now (heights .entry)) (from .up) p (from .post)) r ++ drop r (now (line .entry)) ⌝ }
 {
     line[0] = p as u16;
     let mut at = from;
     let mut i = 1;
-    while i < count {
-        line[i] = at.post as u16;
-        at = at.next(heights, rows, columns);
+    let count = loop {
+        let here = at.post;
+        line[i] = here as u16;
         i += 1;
-    }
+        at = at.next(heights, rows, columns);
+        if at.post == here {
+            break i;
+        }
+    };
+    count
 }
 
 // The answer of a line that is refused.
@@ -76,12 +94,10 @@ pub(crate) fn draw_line(
         post: start.post,
         up,
     };
-    let walked = follow(heights, r, c, from);
-    let count = 1 + walked.entries;
-    if line.len() < count {
+    if !has_room(heights, r, c, from, line.len()) {
         return refused(9, 0);
     }
-    write_entries(heights, r, c, p, from, count, line);
+    let count = write_entries(heights, r, c, p, from, line);
     Entries {
         code: 0,
         place: 0,

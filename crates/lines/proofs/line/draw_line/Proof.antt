@@ -1,12 +1,13 @@
 -- By the row that refuses the line, or by its entries.
-use Prim.Native.Nat.{ℕ, _+_, _≤_}
-use mathlib.Core.Path.{_≡_, ap}
+use Prim.Native.Nat.{ℕ, _≤_, _<_}
+use mathlib.Core.Path.{sym, _∙_}
+use mathlib.Core.List.{List}
 use native.Mathlib.Omega.{arith}
+use borrow.Author.Tests.{ltb-true, ltb-false, not-true, not-false}
 use lib.ListN.{length}
-use Rattle.lines.specs.declared.walk.Followed.{Followed}
 use Rattle.lines.specs.Directed.{walkOf}
 use Rattle.lines.proofs.Walking.{length-low}
-use Rattle.lines.proofs.Lined.{not-placed, not-started, too-long, drawn}
+use Rattle.lines.proofs.Lined.{not-placed, not-started, short, too-long, drawn}
 use borrow.Author.Needs.{needs}
 use Rattle.lines.proofs.line.draw_line.Statement.{statement}
 use Rattle.lines.proofs.line.draw_line.Tie as tie
@@ -39,27 +40,28 @@ returns-2 c =
     rw (c .refused2 .ensures)
     (not-started (p .placed .ensures) (a .up) (a .run) (a .line .now) (s .before .if1 .left) (s .start-of .ensures) (i .if2 .taken))
 
-follow-requires : tie.Need-follow-requires
-follow-requires c κs =
+-- the line's walk
+abbrev path : tie.Else2 → List ℕ
+path c =
     let s = c .before .before in
-    (s .before .before .before .placed .ensures .fits (s .before .if1 .left) .0, s .start-of .ensures .vertex (c .if2 .left))
-
--- what the walk counted
-entries : (c : tie.After-follow)
-    → let s = c .before .before .before in
     let a = s .before .before .before .before .before .args in
-    c .follow .result .entries ≡ length (walkOf (a .rows) (a .columns) (a .heights .now) (a .up) (s .start-of .result .post))
-entries c = ap (λ (f : Followed). f .entries) (c .follow .ensures)
+    walkOf (a .rows) (a .columns) (a .heights .now) (a .up) (s .start-of .result .post)
 
-low : (c : tie.After-follow) → c .follow .result .entries ≤ 14401
+low : (c : tie.Else2) → length (path c) ≤ 14401
 low c =
-    let s = c .before .before .before in
+    let s = c .before .before in
     let p = s .before .before .before in
-    let a = p .before .before .args in
-    rw (entries c) (length-low (p .placed .ensures .fits (s .before .if1 .left) .0) (a .up) (s .start-of .result .post))
+    length-low (p .placed .ensures .fits (s .before .if1 .left) .0) (p .before .before .args .up) (s .start-of .result .post)
 
-add-count : tie.Need-add-count
-add-count c = omega (arith, low (c .before))
+has-room-requires : tie.Need-has-room-requires
+has-room-requires c κs =
+    let s = c .before .before in
+    let p = s .before .before .before in
+    let a = p .before .before .args in (
+      p .placed .ensures .fits (s .before .if1 .left) .0,
+      s .start-of .ensures .vertex (c .if2 .left),
+      short (p .placed .ensures) (a .up) (a .run) (a .line .now) (s .before .if1 .left) (s .start-of .ensures) (c .if2 .left),
+    )
 
 refused-requires-3 : tie.Need-refused-requires-3
 refused-requires-3 c κs = search needs
@@ -67,37 +69,43 @@ refused-requires-3 c κs = search needs
 returns-3 : tie.Need-returns-3
 returns-3 c =
     let i = c .before in
-    let f = i .before .before in
-    let s = f .before .before .before in
+    let r = i .before in
+    let s = r .before .before .before in
     let p = s .before .before .before in
     let a = p .before .before .args in
     rw (c .refused3 .ensures)
-    (too-long (p .placed .ensures) (a .up) (a .run) (a .line .now) (s .before .if1 .left) (s .start-of .ensures) (f .before .if2 .left) _
-    (ap (λ (n : ℕ). 1 + n) (entries f))
-    (i .if3 .taken))
+    (too-long (p .placed .ensures) (a .up) (a .run) (a .line .now) (s .before .if1 .left) (s .start-of .ensures) (r .before .if2 .left)
+    (ltb-false _ _ (sym (r .has-room .ensures) ∙ not-true _ (i .if3 .taken))))
+
+-- the list has room
+room : (c : tie.Else3) → length (path (c .before .before)) < length (c .before .before .before .before .before .before .before .before .before .args .line .now)
+room c = ltb-true _ _ (sym (c .before .has-room .ensures) ∙ not-false _ (c .if3 .left))
 
 write-entries-requires : tie.Need-write-entries-requires
 write-entries-requires c κs =
-    let f = c .before .before .before in
-    let s = f .before .before .before in
+    let e = c .before .before .before in
+    let s = e .before .before in
     let fits = s .before .before .before .placed .ensures .fits (s .before .if1 .left) in
-    (fits .0, fits .1, s .start-of .ensures .vertex (f .before .if2 .left), omega arith, c .before .if3 .left)
+    (fits .0, fits .1, s .start-of .ensures .vertex (e .if2 .left), omega (arith, room (c .before)))
 
-cast-t21 : tie.Need-cast-t21
-cast-t21 c = omega (arith, low (c .before .before .before .before .before .before))
+cast-t20 : tie.Need-cast-t20
+cast-t20 c =
+    let w = c .before .before in
+    omega (arith, w .write-entries .ensures .0, low (w .before .before .before .before))
 
 same-length : tie.Need-same-length
 same-length c = search needs
 
 returns-4 : tie.Need-returns-4
 returns-4 c =
-    let e = c .before .before .before .before in
-    let f = e .before .before in
-    let s = f .before .before .before in
+    let w = c .before .before in
+    let i = w .before .before in
+    let e = i .before .before in
+    let s = e .before .before in
     let p = s .before .before .before in
     let a = p .before .before .args in
-    drawn (p .placed .ensures) (a .up) (a .run) (a .line .now) (s .before .if1 .left) (s .start-of .ensures) (f .before .if2 .left)
-    _ (ap (λ (n : ℕ). 1 + n) (entries f)) (e .if3 .left) _ (c .before .before .write-entries .ensures)
+    drawn (p .placed .ensures) (a .up) (a .run) (a .line .now) (s .before .if1 .left) (s .start-of .ensures) (e .if2 .left)
+    (room i) _ (w .write-entries .ensures .0) _ (w .write-entries .ensures .1)
 
 pub draw-line-spec : {M : Type 1} → statement M
 draw-line-spec =
@@ -109,11 +117,10 @@ draw-line-spec =
     start-of-requires
     refused-requires-2
     returns-2
-    follow-requires
-    add-count
+    has-room-requires
     refused-requires-3
     returns-3
     write-entries-requires
-    cast-t21
+    cast-t20
     same-length
     returns-4)

@@ -1,53 +1,53 @@
 -- The loop's invariant: the first i entries are written, the others are as they were, and the walk stands at the next entry.
-use Prim.Native.Nat.{_-_, _*_, _≤_}
-use mathlib.Core.Path.{_≡_, refl, sym, _∙_}
+-- The measure is the rank in the height order, which falls at every step.
+use Prim.Native.Nat.{_+_, _*_, _≤_}
+use mathlib.Core.Path.{_≡_, refl, sym, _∙_, ap}
 use native.Mathlib.Omega.{arith}
 use lib.ListN.{length, set, length-set}
 use lib.Seq.{drop-set-lt}
 use Rattle.surface.specs.Lines.{end}
-use Rattle.surface.proofs.Walks.{Vertex}
+use Rattle.surface.proofs.Order.{rank}
 use Rattle.surface.proofs.ListOf.{Filled, filled-more, filled-length}
+use Rattle.plot.specs.Scan.{toward}
 use Rattle.plot.proofs.Round.{few}
-use Rattle.lines.specs.Directed.{after, entryOf}
-use Rattle.lines.proofs.Walking.{vertex-low, vertex-next, entry-after, after-more, filled-first}
+use Rattle.lines.specs.declared.walk.Walk.{Walk}
+use Rattle.lines.specs.declared.walk.Followed.{Followed}
+use Rattle.lines.specs.Directed.{nextOf, walkOf, entryOf}
+use Rattle.lines.proofs.Walking.{vertex-low, length-low, Along, along-none, along-more, along-sinks, along-low, along-end, entry-more, filled-first}
 use Rattle.lines.proofs.line.write_entries.Statement.{statement}
 use Rattle.lines.proofs.line.write_entries.Tie as tie
 
 abbrev Inv-loop : tie.InvT-loop
-Inv-loop heights rows columns p count line₀ at₀ i₀ line at i =
+Inv-loop heights rows columns p line₀ at₀ i₀ line at i =
     (1 ≤ i)
-    × (i ≤ count)
-    × Vertex (rows * columns) (at .post)
-    × (at .up ≡ at₀ .up)
-    × (at .post ≡ after rows columns heights (at₀ .up) (i - 1) (at₀ .post))
+    × Along rows columns heights at₀ at i
+    × (at .post ≡ entryOf rows columns heights (at₀ .up) p (at₀ .post) i)
     × Filled (entryOf rows columns heights (at₀ .up) p (at₀ .post)) line₀ i line
 
 abbrev μ-loop : tie.MeasureT-loop
-μ-loop heights rows columns p count line₀ at₀ i₀ line at i = count - i
+μ-loop heights rows columns p line₀ at₀ i₀ line at i = rank (toward heights (at₀ .up)) (rows * columns) (at .post)
 
 cast-line : tie.Need-cast-line Inv-loop μ-loop
 cast-line c = omega (arith, few (c .before .pre .0))
 
 slice-write-line : tie.Need-slice-write-line Inv-loop μ-loop
-slice-write-line c = omega (arith, c .before .pre .3, c .before .pre .4)
+slice-write-line c = omega (arith, c .before .pre .3)
 
 loop-holds : tie.Need-loop-holds Inv-loop μ-loop
 unfolding entryOf end
 loop-holds c =
     let s = c .before in (
       omega arith,
-      omega (arith, s .pre .3),
-      s .pre .2,
+      along-none (s .pre .0) (s .args .from) (s .pre .2),
       refl,
-      refl,
-      filled-first _ (s .args .line .now) (s .args .p) (omega (arith, s .pre .3, s .pre .4)) refl,
+      filled-first _ (s .args .line .now) (s .args .p) (omega (arith, s .pre .3)) refl,
     )
 
-cast-line-2 : tie.Need-cast-line-2 Inv-loop μ-loop
-cast-line-2 c = omega (arith, vertex-low (c .before .before .before .before .pre .0) (c .before .before .loop .at .post) (c .before .before .loop .inv .2))
-
-mul-line : tie.Need-mul-line Inv-loop μ-loop
-mul-line c = omega arith
+-- there is an entry to come
+more : (l : tie.At-loop Inv-loop μ-loop)
+    → let a = l .before .before .args in
+    l .loop .i ≤ length (walkOf (a .rows) (a .columns) (a .heights .now) (a .from .up) (a .from .post))
+more l = along-low (l .before .before .pre .0) (l .loop .inv .1)
 
 -- the list keeps its length
 long : (l : tie.At-loop Inv-loop μ-loop) → length (set (l .before .before .args .line .now) 0 (l .before .before .args .p)) ≡ length (l .before .before .args .line .now)
@@ -55,46 +55,71 @@ long l = length-set (l .before .before .args .line .now) 0 (l .before .before .a
 
 kept : (l : tie.At-loop Inv-loop μ-loop) → length (l .loop .line) ≡ length (l .before .before .args .line .now)
 kept l =
-    filled-length _ _ (l .loop .i) (l .loop .line) (omega (arith, long l, l .loop .inv .1, l .before .before .pre .4)) (l .loop .inv .5) ∙ long l
+    filled-length _ _ (l .loop .i) (l .loop .line) (omega (arith, long l, more l, l .before .before .pre .3)) (l .loop .inv .3) ∙ long l
+
+cast-line-2 : tie.Need-cast-line-2 Inv-loop μ-loop
+cast-line-2 c = omega (arith, vertex-low (c .before .before .pre .0) (c .loop .at .post) (c .loop .inv .1 .vertex))
+
+mul-line : tie.Need-mul-line Inv-loop μ-loop
+mul-line c = omega arith
 
 slice-write-line-2 : tie.Need-slice-write-line-2 Inv-loop μ-loop
-slice-write-line-2 c = omega (arith, kept (c .before .before), c .before .before .before .before .pre .4)
-
-next-requires : tie.Need-next-requires Inv-loop μ-loop
-next-requires c κs = (c .before .before .before .before .pre .0, c .before .before .loop .inv .2)
+slice-write-line-2 c = omega (arith, kept c, more c, c .before .before .pre .3)
 
 add-i : tie.Need-add-i Inv-loop μ-loop
-add-i c = omega arith
+add-i c =
+    let s = c .before .before in
+    omega (arith, more c, length-low (s .pre .0) (s .args .from .up) (s .args .from .post))
+
+next-requires : tie.Need-next-requires Inv-loop μ-loop
+next-requires c κs = (c .before .before .pre .0, c .loop .inv .1 .vertex)
+
+-- the entry is written
+written : (l : tie.At-loop Inv-loop μ-loop)
+    → let a = l .before .before .args in
+    Filled (entryOf (a .rows) (a .columns) (a .heights .now) (a .from .up) (a .p) (a .from .post)) (set (a .line .now) 0 (a .p)) (l .loop .i + 1)
+    (set (l .loop .line) (l .loop .i) (l .loop .at .post))
+written l =
+    filled-more _ _ (l .loop .i) (l .loop .line) _ (omega (arith, long l, more l, l .before .before .pre .3)) (l .loop .inv .3) (l .loop .inv .2)
+
+-- the step went to another post
+moved : (c : tie.Else1 Inv-loop μ-loop)
+    → let l = c .before .before .before in
+    let a = l .before .before .args in
+    nextOf (a .rows) (a .columns) (a .heights .now) (l .loop .at .up) (l .loop .at .post) ≡ l .loop .at .post → ⊥
+moved c e = c .if1 .left (ap (λ (w : Walk). w .post) (c .before .before .next .ensures) ∙ e)
 
 loop-less : tie.Need-loop-less Inv-loop μ-loop
-loop-less c = omega arith
+loop-less c =
+    let n = c .before .before in
+    let l = n .before in
+    rw (n .next .ensures) (along-sinks (l .before .before .pre .0) (l .loop .inv .1) (moved c))
 
 loop-again : tie.Need-loop-again Inv-loop μ-loop
 loop-again c =
-    let l = c .before .before .before in
+    let n = c .before .before in
+    let l = n .before in
     let s = l .before .before in
     let v = l .loop .inv in
-    let i = l .loop .i in
-    let a = s .args in
-    let from = a .from in
-    let at = v .4 ∙ sym (entry-after (a .rows) (a .columns) (a .heights .now) (from .up) (a .p) (from .post) i (v .0)) in (
+    let from = s .args .from in (
       omega arith,
-      omega arith,
-      rw (c .next .ensures) (vertex-next (s .pre .0) (l .loop .at .up) (l .loop .at .post) (v .2)),
-      rw (c .next .ensures) (v .3),
-      rw (c .next .ensures, v .3, v .4) (after-more (s .pre .0) (from .up) (from .post) i (v .0)),
-      filled-more _ _ i (l .loop .line) _ (omega (arith, long l, s .pre .4)) (v .5) at,
+      rw (n .next .ensures) (along-more (s .pre .0) (v .1) (moved c)),
+      rw (n .next .ensures, v .1 .same, v .2) (entry-more (s .pre .0) (from .up) (s .args .p) (from .post) (l .loop .i) (v .0)),
+      written l,
     )
 
 same-length : tie.Need-same-length Inv-loop μ-loop
-same-length c = kept (c .before)
+same-length c = let l = c .before .before .before in length-set (l .loop .line) (l .loop .i) (l .loop .at .post) ∙ kept l
 
 returns : tie.Need-returns Inv-loop μ-loop
 returns c =
-    let l = c .before in
+    let n = c .before .before in
+    let l = n .before in
     let s = l .before .before in
-    let e : l .loop .i ≡ s .args .count = omega arith in
-    rw (l .loop .inv .5, e, drop-set-lt (s .args .count) (s .args .line .now) 0 (s .args .p) (omega (arith, s .pre .3)))
+    let e = along-end (s .pre .0) (l .loop .inv .1) (sym (ap (λ (w : Walk). w .post) (n .next .ensures)) ∙ c .if1 .taken) in (
+      omega (arith, ap (λ (f : Followed). f .entries) e),
+      rw (written l, drop-set-lt (l .loop .i + 1) (s .args .line .now) 0 (s .args .p) (omega arith)),
+    )
 
 pub write-entries-spec : {M : Type 1} → statement M
 write-entries-spec =
@@ -108,8 +133,8 @@ write-entries-spec =
     cast-line-2
     mul-line
     slice-write-line-2
-    next-requires
     add-i
+    next-requires
     loop-less
     loop-again
     same-length
