@@ -64,7 +64,7 @@ module _ {rows columns : ℕ} {hs : List ℤ} {post : ℕ} {r : Answer} (a : Pla
 
       pub short : length path ≤ rows * columns
       short =
-          let f = line-falls (descent (a .fits h .0) up) post run (a .fits h .1) has-run in
+          let f = line-falls (descent (a .levelled h .0 .fits) up) post run (a .levelled h .1) has-run in
           omega (arith, f .2 .bound, ap length (sym (f .1) ∙ is-line))
 
       pub too-long : length list ≤ length path → Outcome v entries list (record { code = 9; place = 0; count = 0 }) list

@@ -26,9 +26,11 @@ use Rattle.plot.specs.Scan.{toward}
 use Rattle.plot.specs.Rings.{Held}
 use Rattle.plot.specs.declared.ring.Ring.{Ring}
 use Rattle.plot.proofs.Round.{few}
+use Rattle.plot.proofs.Sizes.{in-range}
 use Rattle.lines.specs.Runs.{StartsAt, Round}
 use Rattle.lines.specs.Rows.{Placed, Started}
-use Rattle.lines.proofs.Walking.{strict, others, vertices}
+use Rattle.plot.proofs.Extreme.{toward-strict}
+use Rattle.lines.proofs.Walking.{others, vertices}
 
 -- a row that is the last of a call's rows and refuses does so whatever rows come after it
 still-refuses : (r : Row) (rest : List Row) → (verdict (r ∷ []) .code ≡ 0 → ⊥) → verdict (r ∷ rest) ≡ verdict (r ∷ [])
@@ -43,7 +45,7 @@ still-refuses r rest h = go (r .holds) h
 -- rows 1, 2, 4 and 5
 module _ (rows columns : ℕ) (hs : List ℤ) (post : ℕ) where
   pub placed-size : (code : ℕ) → Sized rows columns hs code → (code ≡ 0 → ⊥) → Placed rows columns hs post (record { code = code; place = 0 })
-  placed-size code s h = record { refuses = λ n rest. s .refuses h _; passes = λ e. absurd (h e); fits = λ e. absurd (h e) }
+  placed-size code s h = record { refuses = λ n rest. s .refuses h _; passes = λ e. absurd (h e); levelled = λ e. absurd (h e) }
 
   module _ (s : Sized rows columns hs 0) where
     pub placed-range : (answer (verdict (row4 isHeight hs ∷ [])) .code ≡ 0 → ⊥) → Placed rows columns hs post (answer (verdict (row4 isHeight hs ∷ [])))
@@ -51,7 +53,7 @@ module _ (rows columns : ℕ) (hs : List ℤ) (post : ℕ) where
         record {
           refuses = λ n rest. s .passes refl _ ∙ still-refuses (row4 isHeight hs) _ h;
           passes = λ e. absurd (h e);
-          fits = λ e. absurd (h e);
+          levelled = λ e. absurd (h e);
         }
 
     -- after row 4
@@ -63,7 +65,7 @@ module _ (rows columns : ℕ) (hs : List ℤ) (post : ℕ) where
         record {
           refuses = λ n rest. past h _ ∙ row-holds (row5 rows columns post) rest (ap not (le-ltb post (rows * columns) k));
           passes = λ e. absurd (omega arith);
-          fits = λ e. absurd (omega arith);
+          levelled = λ e. absurd (omega arith);
         }
 
     pub placed-all : answer (verdict (row4 isHeight hs ∷ [])) .code ≡ 0 → post < rows * columns → Placed rows columns hs post (record { code = 0; place = 0 })
@@ -71,7 +73,7 @@ module _ (rows columns : ℕ) (hs : List ℤ) (post : ℕ) where
         record {
           refuses = λ n. absurd (n refl);
           passes = λ e rest. past h _ ∙ row-passed (row5 rows columns post) rest (ap not (lt-ltb post (rows * columns) k));
-          fits = λ _. (s .fits refl, k);
+          levelled = λ _. (record { fits = s .fits refl; inRange = in-range hs h }, k);
         }
 
 -- a saddle has neighbours below and above
@@ -113,7 +115,7 @@ module _ {rows columns : ℕ} {hs : List ℤ} (fits : Fits rows columns hs) (up 
       go false = both .0
 
   mixed : (markAt rows columns hs p < 3 → ⊥) → all low ring ≡ false
-  mixed h = not-true (all low ring) (sym (any-above (toward hs up) (strict hs up) p ring (λ q m. others fits p q post m)) ∙ above h)
+  mixed h = not-true (all low ring) (sym (any-above (toward hs up) (toward-strict hs up) p ring (λ q m. others fits p q post m)) ∙ above h)
 
   pub round : (r : Ring) → (markAt rows columns hs p < 3 → ⊥) → Held r ring → Round hs up p r
   round r h k =

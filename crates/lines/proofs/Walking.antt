@@ -14,7 +14,7 @@ use Rattle.surface.specs.Marks.{ringOf}
 use Rattle.surface.specs.Lines.{end, lowestOf}
 use Rattle.surface.proofs.Bools.{either}
 use Rattle.surface.proofs.Grid.{Sides}
-use Rattle.surface.proofs.Order.{StrictTotal, below-strict, reversed-strict, rank}
+use Rattle.surface.proofs.Order.{rank}
 use Rattle.surface.proofs.RingEdges.{ring-member, ring-other}
 use Rattle.surface.proofs.Lowest.{lowest-member}
 use Rattle.surface.proofs.Walks.{Vertex, Descent, next-step, next-stop, pit-stop, walk-next, end-more, end-next, end-stop}
@@ -23,13 +23,10 @@ use Rattle.surface.proofs.ListOf.{Filled}
 use Rattle.plot.specs.Fits.{Fits}
 use Rattle.plot.specs.Scan.{toward}
 use Rattle.plot.proofs.Round.{few}
+use Rattle.plot.proofs.Extreme.{toward-strict}
 use Rattle.lines.specs.Directed.{isEndOf, nextOf, after, walkOf, entryOf}
 use Rattle.lines.specs.declared.walk.Walk.{Walk}
 use Rattle.lines.specs.declared.walk.Followed.{Followed}
-
-pub strict : (hs : List ℤ) (up : Bool) → StrictTotal (toward hs up)
-strict hs true = reversed-strict (below-strict hs)
-strict hs false = below-strict hs
 
 module _ {rows columns : ℕ} {hs : List ℤ} (fits : Fits rows columns hs) where
   sides : Sides rows columns
@@ -57,14 +54,14 @@ module _ {rows columns : ℕ} {hs : List ℤ} (fits : Fits rows columns hs) wher
 
   module _ (up : Bool) where
     pub descent : Descent (rows * columns) (toward hs up) (ringOf rows columns hs) (lowestOf (toward hs up))
-    descent = record { order = strict hs up; ringVertex = vertices; picksMember = λ p q l m. lowest-member (toward hs up) q l m }
+    descent = record { order = toward-strict hs up; ringVertex = vertices; picksMember = λ p q l m. lowest-member (toward hs up) q l m }
 
     -- a walk stays exactly at an end
     pub stays : (p : ℕ) → Vertex (rows * columns) p → nextOf rows columns hs up p ≡ p → isEndOf rows columns hs up p ≡ true
     stays p v h =
         either (isEndOf rows columns hs up p) (λ e. e)
         (λ e.
-        absurd (true≢false (sym (next-step descent p v e .falls) ∙ ap (λ (q : ℕ). toward hs up q p) h ∙ strict hs up .irrefl p)))
+        absurd (true≢false (sym (next-step descent p v e .falls) ∙ ap (λ (q : ℕ). toward hs up q p) h ∙ toward-strict hs up .irrefl p)))
 
     pub moves : (p : ℕ) → (nextOf rows columns hs up p ≡ p → ⊥) → isEndOf rows columns hs up p ≡ false
     moves p h = either (isEndOf rows columns hs up p) (λ e. absurd (h (next-stop descent p e))) (λ e. e)

@@ -10,7 +10,7 @@ use Rattle.surface.specs.Lines.{lowestOf}
 use Rattle.surface.specs.Refusals.{Row, verdict, row1, row2, row4, row5, row7, row8}
 use Rattle.surface.specs.declared.Answer.{Answer}
 use Rattle.surface.proofs.Walks.{Vertex}
-use Rattle.plot.specs.Fits.{Fits}
+use Rattle.plot.specs.Fits.{Levelled}
 use Rattle.plot.specs.Scan.{toward}
 use Rattle.lines.specs.declared.table.Start.{Start}
 use Rattle.lines.specs.Directed.{runsOf}
@@ -21,7 +21,7 @@ pub record Placed (rows columns : ℕ) (hs : List ℤ) (post : ℕ) (r : Answer)
       → verdict (row1 rows columns ∷ row2 rows columns hs ∷ row4 isHeight hs ∷ row5 rows columns post ∷ rest) ≡ record { code = r .code; place = r .place }
   pub passes : r .code ≡ 0 → (rest : List Row)
       → verdict (row1 rows columns ∷ row2 rows columns hs ∷ row4 isHeight hs ∷ row5 rows columns post ∷ rest) ≡ verdict rest
-  pub fits : r .code ≡ 0 → Fits rows columns hs × (post < rows * columns)
+  pub levelled : r .code ≡ 0 → Levelled rows columns hs × (post < rows * columns)
 
 -- r is the number of the first of rows 7 and 8 that holds, or 0 and what a line of that run goes to from the saddle
 pub record Started (rows columns : ℕ) (hs : List ℤ) (up : Bool) (post run : ℕ) (r : Start) : Type 0 where

@@ -12,12 +12,12 @@ ghost use lib.ListN.{length, drop};
 ghost use Rattle.surface.specs.Lists.{listOf};
 ghost use Rattle.surface.specs.Calls.{lineAnswer, lineList};
 ghost use Rattle.surface.proofs.Walks.{Vertex};
-ghost use Rattle.plot.specs.Fits.{Fits};
+ghost use Rattle.plot.specs.Fits.{Levelled};
 ghost use Rattle.lines.specs.Directed.{walkOf, entryOf, lineOf, verdictOf};
 
 // Whether a list of length `room` takes the line whose walk this is. A list longer than the heights takes every line, so that nothing is counted.
 fn has_room(heights: &[i32], rows: usize, columns: usize, from: Walk, room: usize) -> bool
-    requires { ⌜ Fits rows columns (now heights) × Vertex (rows * columns) (from .post) × (length (walkOf rows columns (now heights) (from .up) (from .post)) ≤ rows * columns) ⌝ }
+    requires { ⌜ Levelled rows columns (now heights) × Vertex (rows * columns) (from .post) × (length (walkOf rows columns (now heights) (from .up) (from .post)) ≤ rows * columns) ⌝ }
     ensures { λ r. ⌜ r ≡ ltb (length (walkOf rows columns (now (heights .entry)) (from .up) (from .post))) room ⌝ }
 {
     if room <= heights.len() {
@@ -36,7 +36,7 @@ fn write_entries(
     from: Walk,
     line: &mut [u16],
 ) -> usize
-    requires { ⌜ Fits rows columns (now heights) × (p < rows * columns) × Vertex (rows * columns) (from .post) × (1 + length (walkOf rows columns (now heights) (from .up) (from .post)) ≤ length (now line)) ⌝ }
+    requires { ⌜ Levelled rows columns (now heights) × (p < rows * columns) × Vertex (rows * columns) (from .post) × (1 + length (walkOf rows columns (now heights) (from .up) (from .post)) ≤ length (now line)) ⌝ }
     ensures { λ r. ⌜ r ≡ 1 + length (walkOf rows columns (now (heights .entry)) (from .up) (from .post)) ⌝ }
     ensures { λ r. ⌜ now (line .exit) ≡ listOf (entryOf rows columns (now (heights .entry)) (from .up) p (from .post)) r ++ drop r (now (line .entry)) ⌝ }
 {

@@ -1,11 +1,10 @@
 // A walk from post to post, down to a pit or up to a peak.
-use plot::next::next_down_at;
-use plot::next::next_up_at;
+use plot::next::next_at;
 ghost use mathlib.Core.Path.{_≡_};
 ghost use Prim.Native.Nat.{_*_};
 ghost use lib.ListN.{length};
 ghost use Rattle.surface.proofs.Walks.{Vertex};
-ghost use Rattle.plot.specs.Fits.{Fits};
+ghost use Rattle.plot.specs.Fits.{Levelled};
 ghost use Rattle.lines.specs.Directed.{nextOf, after, walkOf};
 
 // Where a walk stands, at 65535 in the virtual pit, and whether it goes up.
@@ -23,7 +22,7 @@ pub struct Followed {
 impl Walk {
     // The walk a post on; at an end it stays.
     pub fn next(self, heights: &[i32], rows: usize, columns: usize) -> Walk
-        requires { ⌜ Fits rows columns (now heights) × Vertex (rows * columns) (self .post) ⌝ }
+        requires { ⌜ Levelled rows columns (now heights) × Vertex (rows * columns) (self .post) ⌝ }
         ensures { λ r. ⌜ r ≡ record { post = nextOf rows columns (now (heights .entry)) (self .up) (self .post); up = self .up } ⌝ }
     {
         let post = self.post;
@@ -31,14 +30,8 @@ impl Walk {
         if post == 65535 {
             return self;
         }
-        if up {
-            return Walk {
-                post: next_up_at(heights, rows, columns, post),
-                up,
-            };
-        }
         Walk {
-            post: next_down_at(heights, rows, columns, post),
+            post: next_at(heights, rows, columns, post, up),
             up,
         }
     }
@@ -46,7 +39,7 @@ impl Walk {
 
 // Follows a walk until its end.
 pub fn follow(heights: &[i32], rows: usize, columns: usize, from: Walk) -> Followed
-    requires { ⌜ Fits rows columns (now heights) × Vertex (rows * columns) (from .post) ⌝ }
+    requires { ⌜ Levelled rows columns (now heights) × Vertex (rows * columns) (from .post) ⌝ }
     ensures { λ r. ⌜ r ≡ record { end = after rows columns (now (heights .entry)) (from .up) (rows * columns) (from .post); entries = length (walkOf rows columns (now (heights .entry)) (from .up) (from .post)) } ⌝ }
 {
     let mut at = from;

@@ -16,14 +16,13 @@ use Rattle.surface.specs.Marks.{ringOf}
 use Rattle.surface.specs.Lines.{isEnd, next, end, lowestOf, nextDown, nextUp, daleAt, hillAt, dalesOf, hillsOf}
 use Rattle.surface.proofs.Bools.{either}
 use Rattle.surface.proofs.ListOf.{length-listOf, getD-listOf, listOf-ext}
-use Rattle.surface.proofs.Order.{StrictTotal, below-strict, reversed-strict}
 use Rattle.surface.proofs.RingEdges.{ring-member}
 use Rattle.surface.proofs.Lowest.{lowest-member}
 use Rattle.surface.proofs.Walks.{Vertex, Descent, next-stop, pit-stop, next-step, end-vertex, end-is-stop}
 use Rattle.plot.specs.Fits.{Fits}
-use Rattle.plot.specs.Scan.{toward}
+use Rattle.plot.specs.Scan.{toward, nextBy}
+use Rattle.plot.proofs.Extreme.{toward-strict}
 use Rattle.plot.proofs.Rows.{fits-sides, fits-small}
-use Rattle.parts.specs.Nexts.{nextBy}
 use Rattle.parts.specs.Paths.{follow, after, endIn, Ends}
 use Rattle.parts.proofs.Shorter.{outside, after-stays}
 
@@ -73,14 +72,10 @@ module _ {rows columns : ℕ} {hs : List ℤ} (fits : Fits rows columns hs) wher
   unfolding ringOf
   descent up =
       record {
-        order = order up;
+        order = toward-strict hs up;
         ringVertex = ring-member (fits-sides fits) (throughLowest (below hs) columns) few;
         picksMember = λ p q l m. lowest-member (toward hs up) q l m;
       }
-    where
-      order : (up : Bool) → StrictTotal (toward hs up)
-      order true = reversed-strict (below-strict hs)
-      order false = below-strict hs
 
   -- document 01's next down and next up are the descent's
   pub next-is : (up : Bool) (p : ℕ) → nextBy up rows columns hs p ≡ next (toward hs up) (ringOf rows columns hs) (lowestOf (toward hs up)) p

@@ -15,6 +15,7 @@ use Rattle.surface.specs.declared.Answer.{Answer}
 use Rattle.surface.proofs.Bools.{or-left, or-right}
 use Rattle.surface.proofs.Verdicts.{row-holds, row-passed}
 use Rattle.plot.specs.Limits.{Sized}
+use Rattle.plot.proofs.Sizes.{in-range}
 use Rattle.parts.specs.Accepts.{Accepts}
 
 -- one of the lists is not as long as the heights
@@ -40,9 +41,9 @@ module _ {rows columns : ℕ} {hs : List ℤ} {code : ℕ} (s : Sized rows colum
         record {
           verdict = v ∙ sym (ap answer (passed ∙ row-passed _ _ h));
           lent =
-              λ _.
+              λ z.
               record {
-                fits = s .fits e;
+                levelled = record { fits = s .fits e; inRange = in-range hs (sym (ap (λ (a : Answer). a .code) v) ∙ z) };
                 dalesSize = eqb-true _ _ (not-false _ (or-left (isNot dales (length hs)) _ h)) ∙ s .fits e .size;
                 hillsSize = eqb-true _ _ (not-false _ (or-right (isNot dales (length hs)) _ h)) ∙ s .fits e .size;
               };

@@ -7,11 +7,11 @@ use lib.ListN.{length}
 use Rattle.surface.specs.Refusals.{partsVerdict}
 use Rattle.surface.specs.Calls.{answer}
 use Rattle.surface.specs.declared.Answer.{Answer}
-use Rattle.plot.specs.Fits.{Fits}
+use Rattle.plot.specs.Fits.{Levelled}
 
 -- a plot, and two lists of its size
 pub record Lent (rows columns : ℕ) (hs : List ℤ) (dales hills : List ℕ) : Type 0 where
-  pub fits : Fits rows columns hs
+  pub levelled : Levelled rows columns hs
   pub dalesSize : length dales ≡ rows * columns
   pub hillsSize : length hills ≡ rows * columns
 

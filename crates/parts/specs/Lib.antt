@@ -1,4 +1,3 @@
--- What the functions below the call promise each other: what is refused, next posts by direction, and the paths that a list of them makes.
+-- What the functions below the call promise each other: what is refused, and the paths that a list of them makes.
 pub mod Accepts
-pub mod Nexts
 pub mod Paths

@@ -1,7 +1,7 @@
 // The ends of the paths that a list of next posts makes, found in the list itself. What has no entry in the list, as the virtual pit, is an end, and
 // so is what is its own entry. A path that was walked is made short, so that no later walk goes along it again: the whole takes time linear in the
 // list.
-use plot::next::choose;
+use plot::side::choose;
 ghost use mathlib.Core.Path.{_≡_};
 ghost use Prim.Native.Nat.{_<_};
 ghost use lib.ListN.{length};

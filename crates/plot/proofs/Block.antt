@@ -1,28 +1,31 @@
--- Downward every corner may be scanned, joined or not: where a diagonal does not join p to the post across a cell, the cell's lowest post stands beside
--- p and is lower than the one across. Over any strict total order.
+-- Round a post on no border the diagonals need not be known. Downward every corner may be scanned: where a diagonal does not join p to the post across a
+-- cell, the cell's lowest post stands beside p and is lower than the one across. Upward a corner above p is joined to it exactly where p is the cell's
+-- lowest post, so where both sides of the cell are above p too. Over any strict total order.
 use Prim.Native.Nat.{ℕ, _+_, _-_, _*_, _<_, _≤_}
 use mathlib.Core.Path.{_≡_, refl, sym, ap, _∙_}
-use mathlib.Core.Logic.{_⊎_, ⊎-elim}
-use mathlib.Core.Bool.{Bool, true, false, not, true≢false}
+use mathlib.Core.Logic.{_⊎_, ⊎-elim, inl, inr}
+use mathlib.Core.Bool.{Bool, true, false, cond, not, _&&_, true≢false, or-true, and-false}
 use mathlib.Core.List.{List, [], _∷_, _++_, List·Memᴰ, List·Memᴰ·head, List·Memᴰ·tail, List·Memᴰ·cases-cons, List·Memᴰ·not-nil}
 use native.Mathlib.Omega.{arith}
-use lib.Dec.{eqb}
 use lib.IntN.{ℤ}
 use lib.ListN.{length}
 use borrow.Author.Tests.{eq-eqb, ne-eqb}
-use Rattle.surface.specs.Plot.{below}
+use Rattle.surface.specs.Plot.{below, reversed}
 use Rattle.surface.specs.Edges.{lowest, Place, place, isBorder, throughLowest}
-use Rattle.surface.specs.Lines.{nextDown}
-use Rattle.surface.proofs.Bools.{either, or-left, or-right}
-use Rattle.surface.proofs.Order.{StrictTotal, below-strict}
+use Rattle.surface.proofs.Bools.{either}
+use Rattle.surface.proofs.Order.{StrictTotal, below-strict, reversed-strict}
 use Rattle.surface.proofs.Lowest.{lowest-member, lowest-least}
 use Rattle.plot.specs.Fits.{Fits}
-use Rattle.plot.specs.Signs.{inside, Room, Inside}
-use Rattle.plot.specs.Scan.{toward, lowerOf, scan, turn, Wide, Inner, everyCorner}
-use Rattle.plot.proofs.Round.{inside-bounds}
-use Rattle.plot.proofs.Extreme.{to-front, room-inside, three-inside, next-is}
+use Rattle.plot.specs.Signs.{inside, cornersBy, Room, Inside}
+use Rattle.plot.specs.declared.sign.Corners.{Corners}
+use Rattle.plot.specs.Scan.{toward, nextBy, lowerOf, step, scan, turn, everyCorner, cornersAbove}
+use Rattle.plot.proofs.Round.{few, inside-bounds}
+use Rattle.plot.proofs.Extreme.{to-front, next-is}
 
 module _ (lower : ℕ → ℕ → Bool) (o : StrictTotal lower) where
+  asym : (a b : ℕ) → lower a b ≡ true → lower b a ≡ false
+  asym a b h = either (lower b a) (λ e. absurd (true≢false (sym (o .trans a b a h e) ∙ o .irrefl a))) (λ e. e)
+
   -- beside a, which is lower, q is never found
   hidden : (x a q : ℕ) → lower a q ≡ true → lowerOf lower (lowerOf lower x q) a ≡ lowerOf lower x a
   hidden x a q h = either (lower q x) (λ e. rw (e, h, o .trans a q x h e)) (λ e. rw e)
@@ -64,33 +67,136 @@ module _ (lower : ℕ → ℕ → Bool) (o : StrictTotal lower) where
     under b q i m h =
         ap (λ (z : ℕ). lower z q) (sym i) ∙ o .other q low (λ j. h (j ∙ i)) ∙ ap not (lowest-least lower o cell q m)
 
+    -- the diagonal, by which post is the lowest
+    told-nw : low ≡ a → throughLowest lower columns a ≡ true
+    unfolding throughLowest
+    told-nw i = rw (eq-eqb low a i)
+
+    told-ne : low ≡ a + 1 → throughLowest lower columns a ≡ false
+    unfolding throughLowest
+    told-ne i = rw (i, ne-eqb (a + 1) a (omega arith), ne-eqb (a + 1) (a + columns + 1) (omega arith))
+
+    told-sw : low ≡ a + columns → throughLowest lower columns a ≡ false
+    unfolding throughLowest
+    told-sw i = rw (i, ne-eqb (a + columns) a (omega arith), ne-eqb (a + columns) (a + columns + 1) (omega arith))
+
+    told-se : low ≡ a + columns + 1 → throughLowest lower columns a ≡ true
+    unfolding throughLowest
+    told-se i = rw (eq-eqb low (a + columns + 1) i, or-true)
+
     -- a corner of the other diagonal has an end of this one below it
     rising : {A : Type 0} (q : ℕ) → throughLowest lower columns a ≡ false → List·Memᴰ q cell → (q ≡ a + 1 → ⊥) → (q ≡ a + columns → ⊥)
         → (lower (a + 1) q ≡ true → A) → (lower (a + columns) q ≡ true → A) → A
-    unfolding throughLowest
     rising q e m f g ne sw =
         one-of
-        (λ i. absurd (true≢false (sym (eq-eqb low a i) ∙ or-left (eqb low a) (eqb low (a + columns + 1)) e)))
+        (λ i. absurd (true≢false (sym (told-nw i) ∙ e)))
         (λ i. ne (under (a + 1) q i m f))
         (λ i. sw (under (a + columns) q i m g))
-        (λ i. absurd (true≢false (sym (eq-eqb low (a + columns + 1) i) ∙ or-right (eqb low a) (eqb low (a + columns + 1)) e)))
+        (λ i. absurd (true≢false (sym (told-se i) ∙ e)))
 
     falling : {A : Type 0} (q : ℕ) → throughLowest lower columns a ≡ true → List·Memᴰ q cell → (q ≡ a → ⊥) → (q ≡ a + columns + 1 → ⊥)
         → (lower a q ≡ true → A) → (lower (a + columns + 1) q ≡ true → A) → A
-    unfolding throughLowest
     falling q e m f g nw se =
         one-of
         (λ i. nw (under a q i m f))
-        (λ i. absurd (true≢false (sym e ∙ rw (i, ne-eqb (a + 1) a (omega arith), ne-eqb (a + 1) (a + columns + 1) (omega arith)))))
-        (λ i. absurd (true≢false (sym e ∙ rw (i, ne-eqb (a + columns) a (omega arith), ne-eqb (a + columns) (a + columns + 1) (omega arith)))))
+        (λ i. absurd (true≢false (sym e ∙ told-ne i)))
+        (λ i. absurd (true≢false (sym e ∙ told-sw i)))
         (λ i. se (under (a + columns + 1) q i m g))
+
+    -- p and q stand across the cell from each other; x and y are the other two
+    record Across (p q x y : ℕ) : Type 0 where
+      pub p-in : List·Memᴰ p cell
+      pub x-in : List·Memᴰ x cell
+      pub y-in : List·Memᴰ y cell
+      pub x-other : x ≡ p → ⊥
+      pub y-other : y ≡ p → ⊥
+      pub one : (low ≡ p) ⊎ ((low ≡ q) ⊎ ((low ≡ x) ⊎ (low ≡ y)))
+
+    -- where q is above p, they are joined exactly where both x and y are above p
+    joined-above : {p q x y : ℕ} (c : Across p q x y) (t : Bool) → (low ≡ p → t ≡ true) → (low ≡ x → t ≡ false) → (low ≡ y → t ≡ false)
+        → lower p q ≡ true → t ≡ lower p x && lower p y
+    joined-above {p} {q} {x} {y} c t tp tx ty h =
+        ⊎-elim (λ (i : low ≡ p). tp i ∙ rw (under p x i (c .x-in) (c .x-other), under p y i (c .y-in) (c .y-other)))
+        (λ (r : (low ≡ q) ⊎ ((low ≡ x) ⊎ (low ≡ y))).
+        ⊎-elim
+        (λ (i : low ≡ q). absurd (true≢false (sym h ∙ asym q p (under q p i (c .p-in) (λ e. true≢false (sym h ∙ ap (lower p) (sym e) ∙ o .irrefl p))))))
+        (λ (r : (low ≡ x) ⊎ (low ≡ y)).
+        ⊎-elim (λ (i : low ≡ x). tx i ∙ rw (asym x p (under x p i (c .p-in) (λ e. c .x-other (sym e)))))
+        (λ (i : low ≡ y). ty i ∙ rw (asym y p (under y p i (c .p-in) (λ e. c .y-other (sym e))), and-false)) r)
+        r)
+        (c .one)
+
+    in-nw : List·Memᴰ a cell
+    in-nw = List·Memᴰ·head refl
+
+    in-ne : List·Memᴰ (a + 1) cell
+    in-ne = List·Memᴰ·tail (List·Memᴰ·head refl)
+
+    in-sw : List·Memᴰ (a + columns) cell
+    in-sw = List·Memᴰ·tail (List·Memᴰ·tail (List·Memᴰ·head refl))
+
+    in-se : List·Memᴰ (a + columns + 1) cell
+    in-se = List·Memᴰ·tail (List·Memᴰ·tail (List·Memᴰ·tail (List·Memᴰ·head refl)))
+
+    -- from each post of the cell to the one across
+    from-nw : lower a (a + columns + 1) ≡ true → throughLowest lower columns a ≡ lower a (a + columns) && lower a (a + 1)
+    from-nw =
+        joined-above
+        (record {
+          p-in = in-nw;
+          x-in = in-sw;
+          y-in = in-ne;
+          x-other = λ e. omega arith;
+          y-other = λ e. omega arith;
+          one = one-of inl (λ i. inr (inr (inr i))) (λ i. inr (inr (inl i))) (λ i. inr (inl i));
+        })
+        _ told-nw told-sw told-ne
+
+    from-ne : lower (a + 1) (a + columns) ≡ true → not (throughLowest lower columns a) ≡ lower (a + 1) (a + columns + 1) && lower (a + 1) a
+    from-ne =
+        joined-above
+        (record {
+          p-in = in-ne;
+          x-in = in-se;
+          y-in = in-nw;
+          x-other = λ e. omega arith;
+          y-other = λ e. omega arith;
+          one = one-of (λ i. inr (inr (inr i))) inl (λ i. inr (inl i)) (λ i. inr (inr (inl i)));
+        })
+        _ (λ i. ap not (told-ne i)) (λ i. ap not (told-se i)) (λ i. ap not (told-nw i))
+
+    from-sw : lower (a + columns) (a + 1) ≡ true → not (throughLowest lower columns a) ≡ lower (a + columns) a && lower (a + columns) (a + columns + 1)
+    from-sw =
+        joined-above
+        (record {
+          p-in = in-sw;
+          x-in = in-nw;
+          y-in = in-se;
+          x-other = λ e. omega arith;
+          y-other = λ e. omega arith;
+          one = one-of (λ i. inr (inr (inl i))) (λ i. inr (inl i)) inl (λ i. inr (inr (inr i)));
+        })
+        _ (λ i. ap not (told-sw i)) (λ i. ap not (told-nw i)) (λ i. ap not (told-se i))
+
+    from-se : lower (a + columns + 1) a ≡ true → throughLowest lower columns a ≡ lower (a + columns + 1) (a + 1) && lower (a + columns + 1) (a + columns)
+    from-se =
+        joined-above
+        (record {
+          p-in = in-se;
+          x-in = in-ne;
+          y-in = in-sw;
+          x-other = λ e. omega arith;
+          y-other = λ e. omega arith;
+          one = one-of (λ i. inr (inl i)) (λ i. inr (inr (inl i))) (λ i. inr (inr (inr i))) inl;
+        })
+        _ told-se told-ne told-sw
 
   module _ (columns p : ℕ) (wide : 2 ≤ columns) (far : columns + 1 ≤ p) where
     abbrev falls : ℕ → Bool
     falls = throughLowest lower columns
 
     abbrev round : Bool → Bool → Bool → Bool → List Place
-    round ne sw se nw = turn columns p inside (record { ne = ne; se = se; sw = sw; nw = nw })
+    round ne se sw nw = turn columns p inside (record { ne = ne; se = se; sw = sw; nw = nw })
 
     -- a post under another name
     named : (x y q : ℕ) → x ≡ y → lower x q ≡ true → lower y q ≡ true
@@ -100,46 +206,103 @@ module _ (lower : ℕ → ℕ → Bool) (o : StrictTotal lower) where
     untrue true h = refl
     untrue false h = absurd (true≢false h)
 
-    ne-free : (sw se nw : Bool) → scan lower p (round (not (falls (p - columns))) sw se nw) ≡ scan lower p (round true sw se nw)
-    ne-free sw se nw =
+    ne-free : (se sw nw : Bool) → scan lower p (round (not (falls (p - columns))) se sw nw) ≡ scan lower p (round true se sw nw)
+    ne-free se sw nw =
         let q = p - (columns - 1) in
-        free p q _ (place true (p - 1) ∷ []) _
+        free p q _ (place true (p - columns) ∷ []) _
         (λ t.
         falling columns (p - columns) wide q (untrue _ t) (List·Memᴰ·tail (List·Memᴰ·head (omega arith))) (λ e. omega arith) (λ e. omega arith)
-        (λ h. unseen p (p - columns) q (place true (p - 1) ∷ []) _ h)
-        (λ h. unseen p (p + 1) q (place true (p - 1) ∷ place true (p - columns) ∷ []) _ (named _ (p + 1) q (omega arith) h)))
+        (λ h. unseen p (p - columns) q [] _ h)
+        (λ h. unseen p (p + 1) q (place true (p - columns) ∷ []) _ (named _ (p + 1) q (omega arith) h)))
 
-    sw-free : (ne se nw : Bool) → scan lower p (round ne (not (falls (p - 1))) se nw) ≡ scan lower p (round ne true se nw)
-    sw-free ne se nw =
-        let q = p + (columns - 1) in
-        let north = place true (p - 1) ∷ place ne (p - (columns - 1)) ∷ place true (p - columns) ∷ place true (p + 1) ∷ [] in
-        free p q _ north _
-        (λ t.
-        falling columns (p - 1) wide q (untrue _ t) (List·Memᴰ·tail (List·Memᴰ·tail (List·Memᴰ·head (omega arith)))) (λ e. omega arith) (λ e. omega arith)
-        (λ h. unseen p (p - 1) q [] _ h)
-        (λ h. unseen p (p + columns) q north _ (named _ (p + columns) q (omega arith) h)))
-
-    se-free : (ne sw nw : Bool) → scan lower p (round ne sw (falls p) nw) ≡ scan lower p (round ne sw true nw)
+    se-free : (ne sw nw : Bool) → scan lower p (round ne (falls p) sw nw) ≡ scan lower p (round ne true sw nw)
     se-free ne sw nw =
         let q = p + (columns + 1) in
-        let north = place true (p - 1) ∷ place ne (p - (columns - 1)) ∷ place true (p - columns) ∷ [] in
-        free p q _ (place true (p - 1) ∷ place ne (p - (columns - 1)) ∷ place true (p - columns) ∷ place true (p + 1) ∷ place sw (p + (columns - 1)) ∷ place true (p + columns) ∷ []) _
+        let east = place true (p - columns) ∷ place ne (p - (columns - 1)) ∷ place true (p + 1) ∷ [] in
+        free p q _ east _
         (λ t.
         rising columns p wide q t (List·Memᴰ·tail (List·Memᴰ·tail (List·Memᴰ·tail (List·Memᴰ·head (omega arith))))) (λ e. omega arith) (λ e. omega arith)
-        (λ h. unseen p (p + 1) q north _ h)
-        (λ h. unseen p (p + columns) q (place true (p - 1) ∷ place ne (p - (columns - 1)) ∷ place true (p - columns) ∷ place true (p + 1) ∷ place sw (p + (columns - 1)) ∷ []) _ h))
+        (λ h. unseen p (p + 1) q (place true (p - columns) ∷ place ne (p - (columns - 1)) ∷ []) _ h)
+        (λ h. unseen p (p + columns) q east _ h))
 
-    nw-free : (ne sw se : Bool) → scan lower p (round ne sw se (falls (p - columns - 1))) ≡ scan lower p (round ne sw se true)
-    nw-free ne sw se =
+    sw-free : (ne se nw : Bool) → scan lower p (round ne se (not (falls (p - 1))) nw) ≡ scan lower p (round ne se true nw)
+    sw-free ne se nw =
+        let q = p + (columns - 1) in
+        let east = place true (p - columns) ∷ place ne (p - (columns - 1)) ∷ place true (p + 1) ∷ place se (p + (columns + 1)) ∷ [] in
+        let south = place true (p - columns) ∷ place ne (p - (columns - 1)) ∷ place true (p + 1) ∷ place se (p + (columns + 1)) ∷ place true (p + columns) ∷ [] in
+        free p q _ south _
+        (λ t.
+        falling columns (p - 1) wide q (untrue _ t) (List·Memᴰ·tail (List·Memᴰ·tail (List·Memᴰ·head (omega arith)))) (λ e. omega arith) (λ e. omega arith)
+        (λ h. unseen p (p - 1) q south _ h)
+        (λ h. unseen p (p + columns) q east _ (named _ (p + columns) q (omega arith) h)))
+
+    nw-free : (ne se sw : Bool) → scan lower p (round ne se sw (falls (p - columns - 1))) ≡ scan lower p (round ne se sw true)
+    nw-free ne se sw =
         let q = p - (columns + 1) in
-        free p q _ (place true (p - 1) ∷ place ne (p - (columns - 1)) ∷ place true (p - columns) ∷ place true (p + 1) ∷ place sw (p + (columns - 1)) ∷ place true (p + columns) ∷ place se (p + (columns + 1)) ∷ []) _
+        let south = place true (p - columns) ∷ place ne (p - (columns - 1)) ∷ place true (p + 1) ∷ place se (p + (columns + 1)) ∷ place true (p + columns) ∷ place sw (p + (columns - 1)) ∷ [] in
+        free p q _ (place true (p - columns) ∷ place ne (p - (columns - 1)) ∷ place true (p + 1) ∷ place se (p + (columns + 1)) ∷ place true (p + columns) ∷ place sw (p + (columns - 1)) ∷ place true (p - 1) ∷ []) _
         (λ t.
         rising columns (p - columns - 1) wide q t (List·Memᴰ·head (omega arith)) (λ e. omega arith) (λ e. omega arith)
-        (λ h. unseen p (p - columns) q (place true (p - 1) ∷ place ne (p - (columns - 1)) ∷ []) _ (named _ (p - columns) q (omega arith) h))
-        (λ h. unseen p (p - 1) q [] _ (named _ (p - 1) q (omega arith) h)))
+        (λ h. unseen p (p - columns) q [] _ (named _ (p - columns) q (omega arith) h))
+        (λ h. unseen p (p - 1) q south _ (named _ (p - 1) q (omega arith) h)))
 
-    pub every-corner : scan lower p (round (not (falls (p - columns))) (not (falls (p - 1))) (falls p) (falls (p - columns - 1))) ≡ scan lower p (turn columns p inside everyCorner)
-    every-corner = ne-free _ _ _ ∙ sw-free _ _ _ ∙ se-free _ _ _ ∙ nw-free _ _ _
+    -- p's corners by the diagonals round it
+    abbrev joinedCorners : Corners
+    joinedCorners = cornersBy (falls (p - columns - 1)) (falls (p - columns)) (falls (p - 1)) (falls p)
+
+    pub every-corner : scan lower p (turn columns p inside joinedCorners) ≡ scan lower p (turn columns p inside everyCorner)
+    every-corner = ne-free _ _ _ ∙ se-free _ _ _ ∙ sw-free _ _ _ ∙ nw-free _ _ _
+
+    -- upward: a place's flag matters only where its post is above p
+    abbrev higher : ℕ → ℕ → Bool
+    higher = reversed lower
+
+    first-step : (q : ℕ) (t u : Bool) → (lower p q ≡ true → t ≡ u) → step higher p (place t q) ≡ step higher p (place u q)
+    first-step q t u h = either (lower p q) (λ e. rw (h e)) (λ e. rw e (level t ∙ sym (level u)))
+      where
+        level : (b : Bool) → cond b p p ≡ p
+        level true = refl
+        level false = refl
+
+    same-flag : (q : ℕ) (t u : Bool) (k m : List Place) → (lower p q ≡ true → t ≡ u) → scan higher p (k ++ place t q ∷ m) ≡ scan higher p (k ++ place u q ∷ m)
+    same-flag q t u k m h =
+        to-front higher (reversed-strict o) p k (place t q) m
+        ∙ ap (λ (w : ℕ). scan higher w (k ++ m)) (first-step q t u h)
+        ∙ sym (to-front higher (reversed-strict o) p k (place u q) m)
+
+    -- and there it is whether both sides of the cell are above p
+    ne-above : lower p (p - (columns - 1)) ≡ true → not (falls (p - columns)) ≡ lower p (p - columns) && lower p (p + 1)
+    ne-above h =
+        let e : p - columns + columns ≡ p = omega arith in
+        let q : p - columns + 1 ≡ p - (columns - 1) = omega arith in
+        rw e at (from-sw columns (p - columns) wide (rw (e, q) h))
+
+    se-above : lower p (p + (columns + 1)) ≡ true → falls p ≡ lower p (p + columns) && lower p (p + 1)
+    se-above h =
+        let q : p + columns + 1 ≡ p + (columns + 1) = omega arith in
+        from-nw columns p wide (rw q h)
+
+    sw-above : lower p (p + (columns - 1)) ≡ true → not (falls (p - 1)) ≡ lower p (p + columns) && lower p (p - 1)
+    sw-above h =
+        let e : p - 1 + 1 ≡ p = omega arith in
+        let q : p - 1 + columns ≡ p + (columns - 1) = omega arith in
+        let s : p + (columns - 1) + 1 ≡ p + columns = omega arith in
+        rw (e, q, s) at (from-ne columns (p - 1) wide (rw (e, q) h))
+
+    nw-above : lower p (p - (columns + 1)) ≡ true → falls (p - columns - 1) ≡ lower p (p - columns) && lower p (p - 1)
+    nw-above h =
+        let e : p - columns - 1 + columns + 1 ≡ p = omega arith in
+        let q : p - columns - 1 ≡ p - (columns + 1) = omega arith in
+        let n : p - columns - 1 + 1 ≡ p - columns = omega arith in
+        let w : p - columns - 1 + columns ≡ p - 1 = omega arith in
+        rw (e, n, w) at (from-se columns (p - columns - 1) wide (rw (e, q) h))
+
+    pub corners-above : scan higher p (turn columns p inside joinedCorners) ≡ scan higher p (turn columns p inside (cornersAbove lower columns p))
+    corners-above =
+        same-flag (p - (columns - 1)) _ _ (place true (p - columns) ∷ []) _ ne-above
+        ∙ same-flag (p + (columns + 1)) _ _ (place true (p - columns) ∷ place _ (p - (columns - 1)) ∷ place true (p + 1) ∷ []) _ se-above
+        ∙ same-flag (p + (columns - 1)) _ _ (place true (p - columns) ∷ place _ (p - (columns - 1)) ∷ place true (p + 1) ∷ place _ (p + (columns + 1)) ∷ place true (p + columns) ∷ []) _ sw-above
+        ∙ same-flag (p - (columns + 1)) _ _ (place true (p - columns) ∷ place _ (p - (columns - 1)) ∷ place true (p + 1) ∷ place _ (p + (columns + 1)) ∷ place true (p + columns) ∷ place _ (p + (columns - 1)) ∷ place true (p - 1) ∷ []) _ nw-above
 
 -- a post on no border
 module _ {rows columns : ℕ} {hs : List ℤ} (fits : Fits rows columns hs) (p : ℕ) (post : p < rows * columns) (border : isBorder rows columns p ≡ false) where
@@ -149,28 +312,26 @@ module _ {rows columns : ℕ} {hs : List ℤ} (fits : Fits rows columns hs) (p :
   stands : Inside rows columns hs p (falling-round (p - columns - 1)) (falling-round (p - columns)) (falling-round (p - 1)) (falling-round p)
   stands = record { fits = fits; post = post; border = border; nwFalls = refl; neFalls = refl; swFalls = refl; seFalls = refl }
 
-  pub room-block : Room (length hs) columns p inside everyCorner × Wide columns inside everyCorner × Inner (length hs) columns p true
+  pub room-block : Room (length hs) columns p inside everyCorner
   room-block =
-      let r = room-inside stands .0 in
-      let n = inside-bounds stands in (
-        record {
-          post = r .post;
-          small = r .small;
-          wide = r .wide;
-          narrow = r .narrow;
-          north = r .north;
-          northEast = λ _. omega (arith, n .0);
-          east = r .east;
-          southEast = λ _. n .1;
-          south = r .south;
-          southWest = λ _. omega (arith, n .1);
-          west = r .west;
-          northWest = λ _. n .0;
-        },
-        record { ne = λ _ _. three-inside stands; sw = λ _ _. three-inside stands },
-        λ _. n,
-      )
+      let n = inside-bounds stands in
+      record {
+        post = omega (arith, n .1);
+        small = omega (arith, fits .size, few fits);
+        wide = fits .columnsLow;
+        narrow = fits .columnsHigh;
+        north = λ _. omega (arith, n .0);
+        northEast = λ _. omega (arith, n .0);
+        east = λ _. omega (arith, n .1);
+        southEast = λ _. n .1;
+        south = λ _. omega (arith, n .1);
+        southWest = λ _. omega (arith, n .1);
+        west = λ _. omega (arith, n .0);
+        northWest = λ _. n .0;
+      }
 
-  pub down-block : nextDown rows columns hs p ≡ scan (toward hs false) p (turn columns p inside everyCorner)
-  down-block =
-      next-is stands false ∙ every-corner (below hs) (below-strict hs) columns p (fits .columnsLow) (inside-bounds stands .0)
+  pub down-block : nextBy false rows columns hs p ≡ scan (toward hs false) p (turn columns p inside everyCorner)
+  down-block = next-is stands false ∙ every-corner (below hs) (below-strict hs) columns p (fits .columnsLow) (inside-bounds stands .0)
+
+  pub up-block : nextBy true rows columns hs p ≡ scan (toward hs true) p (turn columns p inside (cornersAbove (below hs) columns p))
+  up-block = next-is stands true ∙ corners-above (below hs) (below-strict hs) columns p (fits .columnsLow) (inside-bounds stands .0)

@@ -7,22 +7,20 @@ use mathlib.Core.List.{List, [], _∷_, _++_}
 use native.Mathlib.Omega.{arith}
 use lib.Dec.{eqb}
 use lib.IntN.{ℤ}
-use lib.ListN.{length}
 use borrow.Author.Tests.{eqb-true, eqb-false, eq-eqb, ne-eqb}
 use Rattle.surface.specs.Lists.{keep, any, filter}
 use Rattle.surface.specs.Plot.{virtualPit, below, reversed}
 use Rattle.surface.specs.Edges.{lowest, lowestOr, Place, place, members, places, ring, top, bottom, first, last, isBorder, throughLowest}
 use Rattle.surface.specs.Marks.{ringOf}
 use Rattle.surface.specs.Lines.{isEnd, next, lowestOf, nextDown, nextUp}
-use Rattle.surface.proofs.Grid.{first-false, last-false}
 use Rattle.surface.proofs.Order.{StrictTotal, reversed-strict, below-strict, pit-below}
 use Rattle.plot.specs.declared.border.Borders.{Borders}
 use Rattle.plot.specs.declared.sign.Corners.{Corners}
 use Rattle.plot.specs.Fits.{Fits}
 use Rattle.plot.specs.Borders.{bordersOf}
-use Rattle.plot.specs.Signs.{cornersOf, cornersBy, inside, Room, Inside}
-use Rattle.plot.proofs.Round.{sides, off, north, no-pit, room, off-first, off-last, borders-are, corners-are}
-use Rattle.plot.specs.Scan.{toward, lowerOf, step, scan, turn, Wide}
+use Rattle.plot.specs.Signs.{cornersOf, cornersBy, inside, Inside}
+use Rattle.plot.proofs.Round.{off, north, no-pit, borders-are, corners-are}
+use Rattle.plot.specs.Scan.{toward, nextBy, lowerOf, step, scan, turn}
 
 split : {A : Type 0} (b : Bool) → (b ≡ true → A) → (b ≡ false → A) → A
 split true f g = f refl
@@ -94,17 +92,6 @@ module _ (lower : ℕ → ℕ → Bool) where
         rw (ne-eqb p virtualPit h)
         (ends p (members places) ∙ filtered p p (members places) (λ y k. k) ∙ scan-lowest p places)
 
-    -- the order of `turn`
-    pub reorder : (p : ℕ) (n ne e se s sw w nw : Place)
-        → scan lower p (n ∷ ne ∷ e ∷ se ∷ s ∷ sw ∷ w ∷ nw ∷ []) ≡ scan lower p (w ∷ ne ∷ n ∷ e ∷ sw ∷ s ∷ se ∷ nw ∷ [])
-    unfolding scan
-    reorder p n ne e se s sw w nw =
-        let x = step lower (step lower (step lower (step lower p w) ne) n) e in
-        to-front p (n ∷ ne ∷ e ∷ se ∷ s ∷ sw ∷ []) w (nw ∷ [])
-        ∙ to-front (step lower p w) (n ∷ []) ne (e ∷ se ∷ s ∷ sw ∷ nw ∷ [])
-        ∙ to-front x (se ∷ s ∷ []) sw (nw ∷ [])
-        ∙ to-front (step lower x sw) (se ∷ []) s (nw ∷ [])
-
   -- places that the scan cannot tell apart
   Alike : List Place → List Place → Type 0
   Alike [] [] = Unit {0}
@@ -165,6 +152,10 @@ module _ (lower : ℕ → ℕ → Bool) where
       to-pit o p h k (place true n ∷ ne ∷ place true e ∷ se ∷ place true s ∷ sw ∷ []) _
   border-pit o p h k n e s w ne se sw nw false false false false i = absurd (true≢false (sym i))
 
+pub toward-strict : (hs : List ℤ) (up : Bool) → StrictTotal (toward hs up)
+toward-strict hs true = reversed-strict (below-strict hs)
+toward-strict hs false = below-strict hs
+
 module _ {rows columns : ℕ} {hs : List ℤ} (fits : Fits rows columns hs) (p : ℕ) (post : p < rows * columns) where
   abbrev t : Bool
   t = top rows columns p
@@ -178,37 +169,26 @@ module _ {rows columns : ℕ} {hs : List ℤ} (fits : Fits rows columns hs) (p :
   abbrev l : Bool
   l = last rows columns p
 
-  three : first rows columns p ≡ false → last rows columns p ≡ false → 3 ≤ columns
-  three h k = omega (arith, first-false (sides fits p post) p .0 h, last-false (sides fits p post) p .0 k)
-
-  pub wide : (falls : ℕ → Bool) → Wide columns (bordersOf rows columns p) (cornersOf rows columns falls p)
-  wide falls =
-      record {
-        ne = λ k h. three h (off t l (not (falls (p - columns))) k .1);
-        sw = λ k h. three (off b f (not (falls (p - 1))) k .1) h;
-      }
-
-  module _ (lower : ℕ → ℕ → Bool) (o : StrictTotal lower) (falls : ℕ → Bool) where
+  module _ (lower : ℕ → ℕ → Bool) (falls : ℕ → Bool) where
     turned : (isBorder rows columns p ≡ true → (x : ℕ) → lower virtualPit x ≡ false)
         → scan lower p (places rows columns falls p) ≡ scan lower p (turn columns p (bordersOf rows columns p) (cornersOf rows columns falls p))
     unfolding places Alike
     turned pit =
         let with = cornersOf rows columns falls p in
-        reorder lower o p _ _ _ _ _ _ _ _
-        ∙ alike-scan lower p _ _ (
-          side lower f (not (f && (t || (l || b)))) (p - 1) (λ e. rw e) (λ e. pit (simp (e, or-true))),
+        alike-scan lower p _ _ (
+          side lower t true (p - columns) (λ e. refl) (λ e. pit (rw e)),
           (
             corner lower (with .ne) (p - columns + 1) (p - (columns - 1)) (λ k. omega (arith, north fits p post (off t l (not (falls (p - columns))) k .0))),
             (
-              side lower t true (p - columns) (λ e. refl) (λ e. pit (rw e)),
+              side lower l (not (l && t)) (p + 1) (λ e. rw e) (λ e. pit (simp (e, or-true))),
               (
-                side lower l (not (l && t)) (p + 1) (λ e. rw e) (λ e. pit (simp (e, or-true))),
+                corner lower (with .se) (p + columns + 1) (p + (columns + 1)) (λ k. omega arith),
                 (
-                  corner lower (with .sw) (p + columns - 1) (p + (columns - 1)) (λ k. omega arith),
+                  side lower b (not (b && (t || l))) (p + columns) (λ e. rw e) (λ e. pit (simp (e, or-true))),
                   (
-                    side lower b (not (b && (t || l))) (p + columns) (λ e. rw e) (λ e. pit (simp (e, or-true))),
+                    corner lower (with .sw) (p + columns - 1) (p + (columns - 1)) (λ k. omega arith),
                     (
-                      corner lower (with .se) (p + columns + 1) (p + (columns + 1)) (λ k. omega arith),
+                      side lower f (not (f && (t || (l || b)))) (p - 1) (λ e. rw e) (λ e. pit (simp (e, or-true))),
                       (
                         corner lower (with .nw) (p - columns - 1) (p - (columns + 1)) (λ k. omega arith),
                         tt,
@@ -231,7 +211,7 @@ module _ {rows columns : ℕ} {hs : List ℤ} (fits : Fits rows columns hs) (p :
       let o = reversed-strict (below-strict hs) in
       let falls = throughLowest (below hs) columns in
       next-scan (reversed (below hs)) o p (places rows columns falls p) (no-pit fits p post)
-      ∙ turned (reversed (below hs)) o falls (λ _. nothing-below)
+      ∙ turned (reversed (below hs)) falls (λ _. nothing-below)
 
   pub down-is : isBorder rows columns p ≡ false
       → nextDown rows columns hs p ≡ scan (toward hs false) p (turn columns p (bordersOf rows columns p) (cornersOf rows columns (throughLowest (below hs) columns) p))
@@ -240,7 +220,7 @@ module _ {rows columns : ℕ} {hs : List ℤ} (fits : Fits rows columns hs) (p :
       let o = below-strict hs in
       let falls = throughLowest (below hs) columns in
       next-scan (below hs) o p (places rows columns falls p) (no-pit fits p post)
-      ∙ turned (below hs) o falls (λ k. absurd (true≢false (sym k ∙ h)))
+      ∙ turned (below hs) falls (λ k. absurd (true≢false (sym k ∙ h)))
 
   pub down-pit : isBorder rows columns p ≡ true → nextDown rows columns hs p ≡ virtualPit
   unfolding nextDown next isEnd ringOf ring places
@@ -250,20 +230,12 @@ module _ {rows columns : ℕ} {hs : List ℤ} (fits : Fits rows columns hs) (p :
 
 -- a post on no border
 module _ {rows columns : ℕ} {hs : List ℤ} {p : ℕ} {nw ne sw se : Bool} (i : Inside rows columns hs p nw ne sw se) where
-  pub room-inside : Room (length hs) columns p inside (cornersBy nw ne sw se) × Wide columns inside (cornersBy nw ne sw se)
-  room-inside =
-      let falls = throughLowest (below hs) columns in
-      rw (← borders-are i, ← corners-are i) (room (i .fits) p (i .post) falls, wide (i .fits) p (i .post) falls)
-
-  pub three-inside : 3 ≤ columns
-  three-inside = three (i .fits) p (i .post) (off-first i) (off-last i)
-
-  pub next-is : (up : Bool) → cond up (nextUp rows columns hs p) (nextDown rows columns hs p) ≡ scan (toward hs up) p (turn columns p inside (cornersBy nw ne sw se))
+  pub next-is : (up : Bool) → nextBy up rows columns hs p ≡ scan (toward hs up) p (turn columns p inside (cornersBy nw ne sw se))
   next-is up =
       go up
       ∙ ap (λ (at : Borders). scan (toward hs up) p (turn columns p at (cornersOf rows columns (throughLowest (below hs) columns) p))) (borders-are i)
       ∙ ap (λ (with : Corners). scan (toward hs up) p (turn columns p inside with)) (corners-are i)
     where
-      go : (up : Bool) → cond up (nextUp rows columns hs p) (nextDown rows columns hs p) ≡ scan (toward hs up) p (turn columns p (bordersOf rows columns p) (cornersOf rows columns (throughLowest (below hs) columns) p))
+      go : (up : Bool) → nextBy up rows columns hs p ≡ scan (toward hs up) p (turn columns p (bordersOf rows columns p) (cornersOf rows columns (throughLowest (below hs) columns) p))
       go true = up-is (i .fits) p (i .post)
       go false = down-is (i .fits) p (i .post) (i .border)

@@ -5,7 +5,7 @@ pub mod Diagonal
 pub mod Round
 pub mod Extreme
 pub mod Block
-pub mod Steps
+pub mod Keyed
 pub mod Sizes
 pub mod Rings
 pub mod Stores

@@ -12,42 +12,42 @@ use Rattle.surface.specs.Edges.{isBorder, throughLowest}
 use Rattle.surface.proofs.Grid.{Sides, row-fits, column-is, top-false, bottom-false, first-false, last-false}
 use Rattle.plot.specs.Fits.{Fits}
 use Rattle.plot.specs.Signs.{Inside}
-use Rattle.plot.specs.Rows.{Falls, Inner}
+use Rattle.plot.specs.Rows.{Falls, Between, Inner}
 
 pub fits-sides : {rows columns : ℕ} {hs : List ℤ} → Fits rows columns hs → Sides rows columns
 fits-sides f = record { tall = f .rowsLow; wide = f .columnsLow }
 
-module _ {rows columns : ℕ} {hs : List ℤ} {base : ℕ} {above here : List Bool} (i : Inner rows columns hs base above here) where
-  pub inner-inside : (c : ℕ) → 1 ≤ c → c + 1 < columns
-      → Inside rows columns hs (base + c) (getD above (c - 1) false) (getD above c false) (getD here (c - 1) false) (getD here c false)
-  inner-inside c h k =
-      record {
-        fits = i .fits;
-        post = omega arith;
-        border = border;
-        nwFalls = i .aboveFalls .tells (c - 1) (omega arith) ∙ ap falls (omega arith);
-        neFalls = i .aboveFalls .tells c k ∙ ap falls (omega arith);
-        swFalls = i .hereFalls .tells (c - 1) (omega arith) ∙ ap falls (omega arith);
-        seFalls = i .hereFalls .tells c k;
-      }
-    where
-      falls : ℕ → Bool
-      falls = throughLowest (below hs) columns
+module _ {rows columns : ℕ} {hs : List ℤ} {base : ℕ} (fits : Fits rows columns hs) (i : Between rows columns base) (c : ℕ) (low : 1 ≤ c) (high : c + 1 < columns) where
+  s : Sides rows columns
+  s = fits-sides fits
 
-      s : Sides rows columns
-      s = fits-sides (i .fits)
+  at : place columns (base + c) ≡ c
+  at = column-is s {q = base + c} (i .r) c (omega arith) (omega arith)
 
-      column : place columns (base + c) ≡ c
-      column = column-is s {q = base + c} (i .r) c (omega arith) (omega arith)
+  pub between-border : isBorder rows columns (base + c) ≡ false
+  between-border =
+      rw (
+        top-false s (base + c) .1 (omega arith),
+        last-false s (base + c) .1 (omega (arith, at)),
+        bottom-false s (base + c) (omega arith) .1 (omega arith),
+        first-false s (base + c) .1 (omega (arith, at)),
+      )
 
-      border : isBorder rows columns (base + c) ≡ false
-      border =
-          rw (
-            top-false s (base + c) .1 (omega arith),
-            last-false s (base + c) .1 (omega (arith, column)),
-            bottom-false s (base + c) (omega arith) .1 (omega arith),
-            first-false s (base + c) .1 (omega (arith, column)),
-          )
+pub inner-inside : {rows columns : ℕ} {hs : List ℤ} {base : ℕ} {above here : List Bool} → Inner rows columns hs base above here → (c : ℕ) → 1 ≤ c → c + 1 < columns
+    → Inside rows columns hs (base + c) (getD above (c - 1) false) (getD above c false) (getD here (c - 1) false) (getD here c false)
+inner-inside {rows} {columns} {hs} i c h k =
+    record {
+      fits = i .fits;
+      post = omega arith;
+      border = between-border (i .fits) (i .between) c h k;
+      nwFalls = i .aboveFalls .tells (c - 1) (omega arith) ∙ ap falls (omega arith);
+      neFalls = i .aboveFalls .tells c k ∙ ap falls (omega arith);
+      swFalls = i .hereFalls .tells (c - 1) (omega arith) ∙ ap falls (omega arith);
+      seFalls = i .hereFalls .tells c k;
+    }
+  where
+    falls : ℕ → Bool
+    falls = throughLowest (below hs) columns
 
 -- a plot has at most 14,400 posts
 pub fits-small : {rows columns : ℕ} {hs : List ℤ} → Fits rows columns hs → rows * columns ≤ 14400
@@ -60,11 +60,14 @@ row-room {rows} {columns} r h k = (
   omega (arith, mul-le-mul-right columns k, suc-mul (r + 1) columns, add-mul r 1 columns, one-mul columns),
 )
 
+pub row-between : {rows columns : ℕ} {hs : List ℤ} (r : ℕ) → Fits rows columns hs → 1 ≤ r → r + 1 < rows → Between rows columns (r * columns)
+row-between r f h k =
+    let m = row-room r h k in
+    record { r = r; start = refl; under = m .0; room = m .1; small = fits-small f }
+
 pub row-inner : {rows columns : ℕ} {hs : List ℤ} {above here : List Bool} (r : ℕ) → Fits rows columns hs → 1 ≤ r → r + 1 < rows
     → Falls hs columns (r * columns - columns) above → Falls hs columns (r * columns) here → Inner rows columns hs (r * columns) above here
-row-inner r f h k a b =
-    let m = row-room r h k in
-    record { fits = f; r = r; start = refl; under = m .0; room = m .1; small = fits-small f; aboveFalls = a; hereFalls = b }
+row-inner r f h k a b = record { fits = f; between = row-between r f h k; aboveFalls = a; hereFalls = b }
 
 pub fits-two : {rows columns : ℕ} {hs : List ℤ} → Fits rows columns hs → columns + columns ≤ rows * columns
 fits-two f = row-fits (fits-sides f)

@@ -1,21 +1,21 @@
 -- Rows 1 and 2 of the table, case by case, and row 4.
-use Prim.Native.Nat.{ℕ, _*_}
+use Prim.Native.Nat.{ℕ, zero, suc, _*_}
 use native.Mathlib.Omega.{arith}
 use mathlib.Core.Path.{_≡_, refl, sym, _∙_, ap}
-use mathlib.Core.Bool.{true, false, not, _&&_}
+use mathlib.Core.Bool.{Bool, true, false, not, _&&_}
 use mathlib.Core.List.{List, [], _∷_}
 use borrow.Author.Tests.{leb-true, eq-eqb, ne-eqb, le-ltb}
 use lib.Dec.{leb}
-use lib.IntN.{ℤ}
-use lib.ListN.{length}
+use lib.IntN.{ℤ, pos}
+use lib.ListN.{length, getD}
 use Rattle.surface.specs.Lists.{all, firstNot}
 use Rattle.surface.specs.Plot.{isSide, isHeight}
 use Rattle.surface.specs.Refusals.{verdict, row4}
 use Rattle.surface.proofs.Bools.{and-left, and-right, either}
 use Rattle.surface.proofs.FirstNot.{all-firstNot, ranged-all}
 use Rattle.surface.proofs.Accepted.{Plotted}
-use Rattle.surface.proofs.Verdicts.{row-holds, row-passed, none-left}
-use Rattle.plot.specs.Fits.{Fits}
+use Rattle.surface.proofs.Verdicts.{row-holds, row-passed, none-left, accepted-clear}
+use Rattle.plot.specs.Fits.{Fits, InRange}
 use Rattle.plot.specs.Limits.{Sized}
 
 module _ (rows columns : ℕ) (hs : List ℤ) where
@@ -59,6 +59,16 @@ range-holds hs h = row-holds _ _ (either _ (λ e. e) (λ e. absurd (clash (sym (
   where
     clash : true ≡ false → ⊥
     clash e = let z : _≡_ {A = ℕ} 0 1 = cc in omega arith
+
+-- where it does not hold every height is in range
+all-at : {A : Type 0} (s : A → Bool) (l : List A) (d : A) → s d ≡ true → all s l ≡ true → (i : ℕ) → s (getD l i d) ≡ true
+unfolding all
+all-at s [] d h k i = h
+all-at s (x ∷ l) d h k zero = and-left (s x) (all s l) k
+all-at s (x ∷ l) d h k (suc i) = all-at s l d h (and-right (s x) (all s l) k) i
+
+pub in-range : (hs : List ℤ) → verdict (row4 isHeight hs ∷ []) .code ≡ 0 → InRange hs
+in-range hs h = all-at isHeight hs (pos 0) refl (ranged-all isHeight hs (accepted-clear (row4 isHeight hs ∷ []) tt h .0))
 
 -- what a call takes for a plot fits
 pub plotted-fits : (rows columns : ℕ) (hs : List ℤ) → Plotted rows columns hs → Fits rows columns hs

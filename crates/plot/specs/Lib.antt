@@ -4,6 +4,7 @@ pub mod Limits
 pub mod Borders
 pub mod Signs
 pub mod Scan
+pub mod Keys
 pub mod Rings
 pub mod Stores
 pub mod Rows

@@ -15,12 +15,16 @@ pub record Falls (hs : List ℤ) (columns base : ℕ) (l : List Bool) : Type 0 w
   pub tells : (c : ℕ) → c + 1 < columns → getD l c false ≡ throughLowest (below hs) columns (base + c)
 
 -- a row that is neither the top nor the bottom one, and starts at `base`
-pub record Inner (rows columns : ℕ) (hs : List ℤ) (base : ℕ) (above here : List Bool) : Type 0 where
-  pub fits : Fits rows columns hs
+pub record Between (rows columns base : ℕ) : Type 0 where
   pub r : ℕ
   pub start : base ≡ r * columns
   pub under : columns ≤ base
   pub room : base + columns + columns ≤ rows * columns
   pub small : rows * columns ≤ 14400
+
+-- and the diagonals round it
+pub record Inner (rows columns : ℕ) (hs : List ℤ) (base : ℕ) (above here : List Bool) : Type 0 where
+  pub fits : Fits rows columns hs
+  pub between : Between rows columns base
   pub aboveFalls : Falls hs columns (base - columns) above
   pub hereFalls : Falls hs columns base here

@@ -62,3 +62,17 @@ pub fn pick(b: bool, x: bool, y: bool) -> bool
 {
     y ^ (b & (x ^ y))
 }
+
+// x where b holds, else y.
+pub fn choose(b: bool, x: usize, y: usize) -> usize
+    ensures { λ r. ⌜ r ≡ cond b x y ⌝ }
+{
+    if b { x } else { y }
+}
+
+// The same of keys.
+pub fn choose_key(b: bool, x: u32, y: u32) -> u32
+    ensures { λ r. ⌜ r ≡ cond b x y ⌝ }
+{
+    if b { x } else { y }
+}

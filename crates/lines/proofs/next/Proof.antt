@@ -20,14 +20,14 @@ unfolding nextVerdict
 returns c = let r = c .before .before .placed in rw (r .ensures .refuses (c .if1 .taken) [], ne-eqb _ 0 (c .if1 .taken))
 
 next-requires : tie.Need-next-requires
-next-requires c κs = let f = c .before .before .placed .ensures .fits (c .if1 .left) in (f .0, inl (f .1))
+next-requires c κs = let f = c .before .before .placed .ensures .levelled (c .if1 .left) in (f .0, inl (f .1))
 
 cast-t12 : tie.Need-cast-t12
 cast-t12 c =
     let e = c .before .before in
     let s = e .before .before .before .args in
-    let f = e .before .before .placed .ensures .fits (e .if1 .left) in
-    omega (arith, vertex-low (f .0) _ (vertex-next (f .0) (s .up) (s .post) (inl (f .1))), ap (λ (w : Walk). w .post) (c .before .next .ensures))
+    let f = e .before .before .placed .ensures .levelled (e .if1 .left) in
+    omega (arith, vertex-low (f .0 .fits) _ (vertex-next (f .0 .fits) (s .up) (s .post) (inl (f .1))), ap (λ (w : Walk). w .post) (c .before .next .ensures))
 
 returns-2 : tie.Need-returns-2
 unfolding nextVerdict

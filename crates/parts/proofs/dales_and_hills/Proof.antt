@@ -41,17 +41,17 @@ returns c =
     (v .verdict .ensures .verdict, (k .0, k .1))
 
 fill-nexts-requires : tie.Need-fill-nexts-requires
-fill-nexts-requires c κs = let l = lent (c .before .before) in (l .fits, l .dalesSize, l .hillsSize)
+fill-nexts-requires c κs = let l = lent (c .before .before) in (l .levelled, l .dalesSize, l .hillsSize)
 
 shorten-requires : tie.Need-shorten-requires
 shorten-requires c κs =
     let f = c .before .before .before .before .before in
-    filled-ends (lent (f .before .before .before) .fits) false (f .fill-nexts .ensures .0)
+    filled-ends (lent (f .before .before .before) .levelled .fits) false (f .fill-nexts .ensures .0)
 
 shorten-requires-2 : tie.Need-shorten-requires-2
 shorten-requires-2 c κs =
     let f = c .before .before .before .before .before .before .before .before .before in
-    filled-ends (lent (f .before .before .before) .fits) true (f .fill-nexts .ensures .1)
+    filled-ends (lent (f .before .before .before) .levelled .fits) true (f .fill-nexts .ensures .1)
 
 same-length-3 : tie.Need-same-length-3
 same-length-3 c = search needs
@@ -66,7 +66,7 @@ returns-2 c =
     let e = f .before .before .before in
     let v = e .before in
     let k = parts-filled _ _ _ _ _ (sym (code v) ∙ e .if1 .left) in
-    let fits = lent e .fits in (
+    let fits = lent e .levelled .fits in (
       v .verdict .ensures .verdict,
       (
         c .before .before .before .before .before .before .shorten .ensures ∙ filled-parts fits false (f .fill-nexts .ensures .0) ∙ k .0,

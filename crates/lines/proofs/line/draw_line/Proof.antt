@@ -26,7 +26,7 @@ returns c =
     rw (c .refused .ensures) (not-placed (p .placed .ensures) (a .up) (a .run) (a .line .now) (i .if1 .taken))
 
 start-of-requires : tie.Need-start-of-requires
-start-of-requires c κs = c .before .before .placed .ensures .fits (c .if1 .left)
+start-of-requires c κs = let l = c .before .before .placed .ensures .levelled (c .if1 .left) in (l .0 .fits, l .1)
 
 refused-requires-2 : tie.Need-refused-requires-2
 refused-requires-2 c κs = search needs
@@ -51,14 +51,14 @@ low : (c : tie.Else2) → length (path c) ≤ 14401
 low c =
     let s = c .before .before in
     let p = s .before .before .before in
-    length-low (p .placed .ensures .fits (s .before .if1 .left) .0) (p .before .before .args .up) (s .start-of .result .post)
+    length-low (p .placed .ensures .levelled (s .before .if1 .left) .0 .fits) (p .before .before .args .up) (s .start-of .result .post)
 
 has-room-requires : tie.Need-has-room-requires
 has-room-requires c κs =
     let s = c .before .before in
     let p = s .before .before .before in
     let a = p .before .before .args in (
-      p .placed .ensures .fits (s .before .if1 .left) .0,
+      p .placed .ensures .levelled (s .before .if1 .left) .0,
       s .start-of .ensures .vertex (c .if2 .left),
       short (p .placed .ensures) (a .up) (a .run) (a .line .now) (s .before .if1 .left) (s .start-of .ensures) (c .if2 .left),
     )
@@ -85,7 +85,7 @@ write-entries-requires : tie.Need-write-entries-requires
 write-entries-requires c κs =
     let e = c .before .before .before in
     let s = e .before .before in
-    let fits = s .before .before .before .placed .ensures .fits (s .before .if1 .left) in
+    let fits = s .before .before .before .placed .ensures .levelled (s .before .if1 .left) in
     (fits .0, fits .1, s .start-of .ensures .vertex (e .if2 .left), omega (arith, room (c .before)))
 
 cast-t20 : tie.Need-cast-t20

@@ -16,7 +16,7 @@ returns c =
     ap (λ (w : Followed). ltb (w .entries) (f .before .before .args .room)) (f .follow .ensures)
 
 returns-2 : tie.Need-returns-2
-returns-2 c = let s = c .before in sym (lt-ltb _ (s .args .room) (omega (arith, c .if1 .left, s .pre .2, s .pre .0 .size)))
+returns-2 c = let s = c .before in sym (lt-ltb _ (s .args .room) (omega (arith, c .if1 .left, s .pre .2, s .pre .0 .fits .size)))
 
 pub has-room-spec : {M : Type 1} → statement M
 has-room-spec = tie.close (tie.spec follow-requires returns returns-2)

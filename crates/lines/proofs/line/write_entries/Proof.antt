@@ -28,7 +28,7 @@ abbrev μ-loop : tie.MeasureT-loop
 μ-loop heights rows columns p line₀ at₀ i₀ line at i = rank (toward heights (at₀ .up)) (rows * columns) (at .post)
 
 cast-line : tie.Need-cast-line Inv-loop μ-loop
-cast-line c = omega (arith, few (c .before .pre .0))
+cast-line c = omega (arith, few (c .before .pre .0 .fits))
 
 slice-write-line : tie.Need-slice-write-line Inv-loop μ-loop
 slice-write-line c = omega (arith, c .before .pre .3)
@@ -38,7 +38,7 @@ unfolding entryOf end
 loop-holds c =
     let s = c .before in (
       omega arith,
-      along-none (s .pre .0) (s .args .from) (s .pre .2),
+      along-none (s .pre .0 .fits) (s .args .from) (s .pre .2),
       refl,
       filled-first _ (s .args .line .now) (s .args .p) (omega (arith, s .pre .3)) refl,
     )
@@ -47,7 +47,7 @@ loop-holds c =
 more : (l : tie.At-loop Inv-loop μ-loop)
     → let a = l .before .before .args in
     l .loop .i ≤ length (walkOf (a .rows) (a .columns) (a .heights .now) (a .from .up) (a .from .post))
-more l = along-low (l .before .before .pre .0) (l .loop .inv .1)
+more l = along-low (l .before .before .pre .0 .fits) (l .loop .inv .1)
 
 -- the list keeps its length
 long : (l : tie.At-loop Inv-loop μ-loop) → length (set (l .before .before .args .line .now) 0 (l .before .before .args .p)) ≡ length (l .before .before .args .line .now)
@@ -58,7 +58,7 @@ kept l =
     filled-length _ _ (l .loop .i) (l .loop .line) (omega (arith, long l, more l, l .before .before .pre .3)) (l .loop .inv .3) ∙ long l
 
 cast-line-2 : tie.Need-cast-line-2 Inv-loop μ-loop
-cast-line-2 c = omega (arith, vertex-low (c .before .before .pre .0) (c .loop .at .post) (c .loop .inv .1 .vertex))
+cast-line-2 c = omega (arith, vertex-low (c .before .before .pre .0 .fits) (c .loop .at .post) (c .loop .inv .1 .vertex))
 
 mul-line : tie.Need-mul-line Inv-loop μ-loop
 mul-line c = omega arith
@@ -69,7 +69,7 @@ slice-write-line-2 c = omega (arith, kept c, more c, c .before .before .pre .3)
 add-i : tie.Need-add-i Inv-loop μ-loop
 add-i c =
     let s = c .before .before in
-    omega (arith, more c, length-low (s .pre .0) (s .args .from .up) (s .args .from .post))
+    omega (arith, more c, length-low (s .pre .0 .fits) (s .args .from .up) (s .args .from .post))
 
 next-requires : tie.Need-next-requires Inv-loop μ-loop
 next-requires c κs = (c .before .before .pre .0, c .loop .inv .1 .vertex)
@@ -93,7 +93,7 @@ loop-less : tie.Need-loop-less Inv-loop μ-loop
 loop-less c =
     let n = c .before .before in
     let l = n .before in
-    rw (n .next .ensures) (along-sinks (l .before .before .pre .0) (l .loop .inv .1) (moved c))
+    rw (n .next .ensures) (along-sinks (l .before .before .pre .0 .fits) (l .loop .inv .1) (moved c))
 
 loop-again : tie.Need-loop-again Inv-loop μ-loop
 loop-again c =
@@ -103,8 +103,8 @@ loop-again c =
     let v = l .loop .inv in
     let from = s .args .from in (
       omega arith,
-      rw (n .next .ensures) (along-more (s .pre .0) (v .1) (moved c)),
-      rw (n .next .ensures, v .1 .same, v .2) (entry-more (s .pre .0) (from .up) (s .args .p) (from .post) (l .loop .i) (v .0)),
+      rw (n .next .ensures) (along-more (s .pre .0 .fits) (v .1) (moved c)),
+      rw (n .next .ensures, v .1 .same, v .2) (entry-more (s .pre .0 .fits) (from .up) (s .args .p) (from .post) (l .loop .i) (v .0)),
       written l,
     )
 
@@ -116,7 +116,7 @@ returns c =
     let n = c .before .before in
     let l = n .before in
     let s = l .before .before in
-    let e = along-end (s .pre .0) (l .loop .inv .1) (sym (ap (λ (w : Walk). w .post) (n .next .ensures)) ∙ c .if1 .taken) in (
+    let e = along-end (s .pre .0 .fits) (l .loop .inv .1) (sym (ap (λ (w : Walk). w .post) (n .next .ensures)) ∙ c .if1 .taken) in (
       omega (arith, ap (λ (f : Followed). f .entries) e),
       rw (written l, drop-set-lt (l .loop .i + 1) (s .args .line .now) 0 (s .args .p) (omega arith)),
     )

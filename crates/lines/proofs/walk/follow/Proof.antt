@@ -18,7 +18,7 @@ abbrev μ-loop : tie.MeasureT-loop
 μ-loop heights rows columns at₀ entries₀ at entries = rank (toward heights (at₀ .up)) (rows * columns) (at .post)
 
 loop-holds : tie.Need-loop-holds Inv-loop μ-loop
-loop-holds c = along-none (c .pre .0) (c .args .from) (c .pre .1)
+loop-holds c = along-none (c .pre .0 .fits) (c .args .from) (c .pre .1)
 
 next-requires : tie.Need-next-requires Inv-loop μ-loop
 next-requires c κs = (c .before .pre .0, c .loop .inv .vertex)
@@ -33,25 +33,25 @@ add-entries : tie.Need-add-entries Inv-loop μ-loop
 add-entries c =
     let l = c .before .before .before in
     let s = l .before in
-    omega (arith, l .loop .inv .counted, length-low (s .pre .0) (s .args .from .up) (s .args .from .post))
+    omega (arith, l .loop .inv .counted, length-low (s .pre .0 .fits) (s .args .from .up) (s .args .from .post))
 
 loop-less : tie.Need-loop-less Inv-loop μ-loop
 loop-less c =
     let n = c .before .before in
     let l = n .before in
-    rw (n .next .ensures) (along-sinks (l .before .pre .0) (l .loop .inv) (moved c))
+    rw (n .next .ensures) (along-sinks (l .before .pre .0 .fits) (l .loop .inv) (moved c))
 
 loop-again : tie.Need-loop-again Inv-loop μ-loop
 loop-again c =
     let n = c .before .before in
     let l = n .before in
-    rw (n .next .ensures) (along-more (l .before .pre .0) (l .loop .inv) (moved c))
+    rw (n .next .ensures) (along-more (l .before .pre .0 .fits) (l .loop .inv) (moved c))
 
 returns : tie.Need-returns Inv-loop μ-loop
 returns c =
     let n = c .before .before in
     let l = n .before in
-    along-end (l .before .pre .0) (l .loop .inv) (sym (ap (λ (w : Walk). w .post) (n .next .ensures)) ∙ c .if1 .taken)
+    along-end (l .before .pre .0 .fits) (l .loop .inv) (sym (ap (λ (w : Walk). w .post) (n .next .ensures)) ∙ c .if1 .taken)
 
 pub follow-spec : {M : Type 1} → statement M
 follow-spec =

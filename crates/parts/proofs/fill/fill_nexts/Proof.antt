@@ -34,13 +34,13 @@ mul-bottom : tie.Need-mul-bottom
 mul-bottom c = search needs
 
 sub-bottom : tie.Need-sub-bottom
-sub-bottom c = omega (arith, fits-two (c .before .before .pre .0))
+sub-bottom c = omega (arith, fits-two (c .before .before .pre .0 .fits))
 
 next-each-requires : tie.Need-next-each-requires
-next-each-requires c κs = let s = c .before .before .before in (s .pre .0, s .pre .1, omega (arith, fits-two (s .pre .0)))
+next-each-requires c κs = let s = c .before .before .before in (s .pre .0, s .pre .1, omega (arith, fits-two (s .pre .0 .fits)))
 
 next-each-requires-2 : tie.Need-next-each-requires-2
-next-each-requires-2 c κs = let s = c .before .before .before .before .before .before .before in (s .pre .0, s .pre .2, omega (arith, fits-two (s .pre .0)))
+next-each-requires-2 c κs = let s = c .before .before .before .before .before .before .before in (s .pre .0, s .pre .2, omega (arith, fits-two (s .pre .0 .fits)))
 
 next-rows-requires : tie.Need-next-rows-requires
 next-rows-requires c κs = search needs
@@ -49,13 +49,13 @@ next-each-requires-3 : tie.Need-next-each-requires-3
 next-each-requires-3 c κs =
     let r = c .before .before .before .before .before in
     let s = r .before .before .before .before .before .before .before .before .before .before .before .before .before in
-    (s .pre .0, sizes r .0, omega (arith, fits-two (s .pre .0)))
+    (s .pre .0, sizes r .0, omega (arith, fits-two (s .pre .0 .fits)))
 
 next-each-requires-4 : tie.Need-next-each-requires-4
 next-each-requires-4 c κs =
     let r = c .before .before .before .before .before .before .before .before .before in
     let s = r .before .before .before .before .before .before .before .before .before .before .before .before .before in
-    (s .pre .0, sizes r .1, omega (arith, fits-two (s .pre .0)))
+    (s .pre .0, sizes r .1, omega (arith, fits-two (s .pre .0 .fits)))
 
 same-length : tie.Need-same-length
 same-length c = search needs
@@ -69,7 +69,7 @@ returns c =
     let s = r .before .before .before .before .before .before .before .before .before .before .before .before .before in
     let k = s .args .columns in
     let n = s .args .rows * k in
-    let w = fits-two (s .pre .0) in (
+    let w = fits-two (s .pre .0 .fits) in (
       whole _ k n (s .args .down .now) _ _ _ (s .pre .1) w (r .before .before .before .before .before .before .before .before .before .next-each .ensures) (r .next-rows .ensures .0) (c .before .before .before .before .before .before .next-each3 .ensures),
       whole _ k n (s .args .up .now) _ _ _ (s .pre .2) w (r .before .before .before .before .before .next-each2 .ensures) (r .next-rows .ensures .1) (c .before .before .next-each4 .ensures),
     )

@@ -3,9 +3,10 @@ use Prim.Native.Nat.{_+_, _-_, _≤_}
 use native.Mathlib.Omega.{arith}
 use mathlib.Core.Path.{_≡_, refl, _∙_}
 use lib.ListN.{length, length-set}
-use Rattle.parts.specs.Nexts.{nextBy}
+use Rattle.plot.specs.Scan.{nextBy}
 use Rattle.plot.specs.Stores.{stores}
 use Rattle.plot.proofs.Stores.{store-next}
+use Rattle.parts.proofs.Descents.{next-fits}
 use Rattle.parts.proofs.fill.next_each.Statement.{statement}
 use Rattle.parts.proofs.fill.next_each.Tie as tie
 
@@ -23,7 +24,13 @@ add-next-at : tie.Need-add-next-at Inv-loop μ-loop
 add-next-at c = omega arith
 
 next-at-requires : tie.Need-next-at-requires Inv-loop μ-loop
-next-at-requires c κs = omega arith
+next-at-requires c κs = let s = c .before .before .before in (s .pre .0, omega arith)
+
+cast-list : tie.Need-cast-list Inv-loop μ-loop
+cast-list c =
+    let l = c .before .before in
+    let s = l .before .before in
+    omega (arith, c .next-at .ensures, next-fits (s .pre .0 .fits) (s .args .up) (s .args .from + l .loop .i) (omega arith))
 
 add-list : tie.Need-add-list Inv-loop μ-loop
 add-list c = omega arith
@@ -67,6 +74,7 @@ next-each-spec =
     loop-holds
     add-next-at
     next-at-requires
+    cast-list
     add-list
     mul-list
     slice-write-list

@@ -1,20 +1,21 @@
 -- `parts::fill::next_inner` meets its contract. The loop's invariant: c - 1 stores were made in each list.
-use Prim.Native.Nat.{_+_, _-_, _≤_}
+use Prim.Native.Nat.{_+_, _-_, _*_, _≤_, _<_}
 use native.Mathlib.Omega.{arith}
 use mathlib.Core.Path.{_≡_, refl, _∙_}
 use mathlib.Core.Bool.{true, false}
-use lib.ListN.{length, getD, length-set}
-use Rattle.plot.specs.Signs.{Inside}
+use lib.ListN.{length, length-set}
+use Rattle.surface.specs.Edges.{isBorder}
+use Rattle.plot.specs.Fits.{Levelled}
+use Rattle.plot.specs.Scan.{nextBy}
 use Rattle.plot.specs.Stores.{stores}
 use Rattle.plot.proofs.Stores.{store-next}
-use Rattle.plot.proofs.Rows.{inner-inside}
-use Rattle.parts.specs.Nexts.{nextBy}
+use Rattle.plot.proofs.Rows.{between-border}
 use Rattle.parts.proofs.Descents.{next-fits}
 use Rattle.parts.proofs.fill.next_inner.Statement.{statement}
 use Rattle.parts.proofs.fill.next_inner.Tie as tie
 
 abbrev Inv-loop : tie.InvT-loop
-Inv-loop heights rows columns base above here down₀ up₀ c₀ down up c =
+Inv-loop heights rows columns base down₀ up₀ c₀ down up c =
     (1 ≤ c)
     × (c + 1 ≤ columns)
     × (length down ≡ length down₀)
@@ -23,20 +24,19 @@ Inv-loop heights rows columns base above here down₀ up₀ c₀ down up c =
     × (up ≡ stores (nextBy true rows columns heights) (base + 1) (c - 1) up₀)
 
 abbrev μ-loop : tie.MeasureT-loop
-μ-loop heights rows columns base above here down₀ up₀ c₀ down up c = columns - c
+μ-loop heights rows columns base down₀ up₀ c₀ down up c = columns - c
 
 -- the function's entry, from the loop's head; a turn's post is on no border
 abbrev start : tie.At-loop Inv-loop μ-loop → tie.Start Inv-loop μ-loop
-start l = l .before .before .before .before .before
+start l = l .before .before .before
 
-abbrev head : tie.After-shared-slice-known6 Inv-loop μ-loop → tie.At-loop Inv-loop μ-loop
-head c = c .before .before .before .before .before
-
-inside : (c : tie.After-shared-slice-known6 Inv-loop μ-loop)
-    → let a = start (head c) .args in
-    let k = head c .loop .c in
-    Inside (a .rows) (a .columns) (a .heights .now) (a .base + k) (getD (a .above .now) (k - 1) false) (getD (a .above .now) k false) (getD (a .here .now) (k - 1) false) (getD (a .here .now) k false)
-inside c = inner-inside (start (head c) .pre .0) (head c .loop .c) (omega arith) (omega arith)
+inside : (i : tie.In-loop Inv-loop μ-loop)
+    → let a = start (i .before) .args in
+    let p = a .base + i .before .loop .c in
+    Levelled (a .rows) (a .columns) (a .heights .now) × (p < a .rows * a .columns) × (isBorder (a .rows) (a .columns) p ≡ false)
+inside i =
+    let s = start (i .before) in
+    (s .pre .0, omega arith, between-border (s .pre .0 .fits) (s .pre .1) (i .before .loop .c) (omega arith) (omega arith))
 
 loop-holds : tie.Need-loop-holds Inv-loop μ-loop
 unfolding stores
@@ -48,33 +48,13 @@ add-loop c = omega arith
 add-p : tie.Need-add-p Inv-loop μ-loop
 add-p c = omega arith
 
-sub-nw : tie.Need-sub-nw Inv-loop μ-loop
-sub-nw c = omega arith
-
-shared-slice-read-nw : tie.Need-shared-slice-read-nw Inv-loop μ-loop
-shared-slice-read-nw c = omega arith
-
-shared-slice-read-ne : tie.Need-shared-slice-read-ne Inv-loop μ-loop
-shared-slice-read-ne c = omega arith
-
-sub-sw : tie.Need-sub-sw Inv-loop μ-loop
-sub-sw c = omega arith
-
-shared-slice-read-sw : tie.Need-shared-slice-read-sw Inv-loop μ-loop
-shared-slice-read-sw c = omega arith
-
-shared-slice-read-se : tie.Need-shared-slice-read-se Inv-loop μ-loop
-shared-slice-read-se c = omega arith
-
-next-down-inside-requires : tie.Need-next-down-inside-requires Inv-loop μ-loop
-next-down-inside-requires c κs =
-    let i = inside c in
-    (i .fits, i .post, i .border)
+next-inside-requires : tie.Need-next-inside-requires Inv-loop μ-loop
+next-inside-requires c κs = inside c
 
 cast-down : tie.Need-cast-down Inv-loop μ-loop
 cast-down c =
     let i = inside (c .before) in
-    omega (arith, c .next-down-inside .ensures, next-fits (i .fits) false _ (i .post))
+    omega (arith, c .next-inside .ensures, next-fits (i .0 .fits) false _ (i .1))
 
 mul-down : tie.Need-mul-down Inv-loop μ-loop
 mul-down c = omega arith
@@ -82,13 +62,13 @@ mul-down c = omega arith
 slice-write-down : tie.Need-slice-write-down Inv-loop μ-loop
 slice-write-down c = omega arith
 
-next-up-inside-requires : tie.Need-next-up-inside-requires Inv-loop μ-loop
-next-up-inside-requires c κs = inside (c .before)
+next-inside-requires-2 : tie.Need-next-inside-requires-2 Inv-loop μ-loop
+next-inside-requires-2 c κs = inside (c .before)
 
 cast-up : tie.Need-cast-up Inv-loop μ-loop
 cast-up c =
     let i = inside (c .before .before) in
-    omega (arith, c .next-up-inside .ensures, next-fits (i .fits) true _ (i .post))
+    omega (arith, c .next-inside2 .ensures, next-fits (i .0 .fits) true _ (i .1))
 
 mul-up : tie.Need-mul-up Inv-loop μ-loop
 mul-up c = omega arith
@@ -104,15 +84,16 @@ loop-less c = omega arith
 
 loop-again : tie.Need-loop-again Inv-loop μ-loop
 loop-again c =
-    let l = head (c .before .before) .loop in
-    let a = start (head (c .before .before)) .args in
+    let h = c .before .before .before in
+    let l = h .loop in
+    let a = start h .args in
     let p = a .base + l .c in (
       omega arith,
       omega arith,
       length-set (l .down) _ _ ∙ l .inv .2,
       length-set (l .up) _ _ ∙ l .inv .3,
-      store-next _ (a .base + 1) (l .c - 1) (l .c + 1 - 1) (l .down) (a .down .now) p _ (l .inv .4) (omega arith) (omega arith) (c .before .next-down-inside .ensures),
-      store-next _ (a .base + 1) (l .c - 1) (l .c + 1 - 1) (l .up) (a .up .now) p _ (l .inv .5) (omega arith) (omega arith) (c .next-up-inside .ensures),
+      store-next _ (a .base + 1) (l .c - 1) (l .c + 1 - 1) (l .down) (a .down .now) p _ (l .inv .4) (omega arith) (omega arith) (c .before .next-inside .ensures),
+      store-next _ (a .base + 1) (l .c - 1) (l .c + 1 - 1) (l .up) (a .up .now) p _ (l .inv .5) (omega arith) (omega arith) (c .next-inside2 .ensures),
     )
 
 same-length : tie.Need-same-length Inv-loop μ-loop
@@ -136,17 +117,11 @@ next-inner-spec =
     loop-holds
     add-loop
     add-p
-    sub-nw
-    shared-slice-read-nw
-    shared-slice-read-ne
-    sub-sw
-    shared-slice-read-sw
-    shared-slice-read-se
-    next-down-inside-requires
+    next-inside-requires
     cast-down
     mul-down
     slice-write-down
-    next-up-inside-requires
+    next-inside-requires-2
     cast-up
     mul-up
     slice-write-up

@@ -36,10 +36,10 @@ next-each-requires-3 c κs = search needs
 next-each-requires-4 : tie.Need-next-each-requires-4
 next-each-requires-4 c κs =
     let i = c .before .before .before .before .before .before .before .before .before in
-    let s = i .before .before .before .before .before .before .before .before .before .before .before .before .before .before .before in (
-      s .pre .0 .fits,
-      i .next-inner .kept .1 .1 .1 .1 .1 .1 .1 .0 ∙ i .before .before .before .before .before .next-each2 .kept .1 .1 .1 .1 .1 .1 .0 ∙ s .pre .2,
-      omega (arith, s .pre .0 .room, s .pre .0 .fits .columnsLow),
+    let s = i .before .before .before .before .before .before .before .before .before .before .before .before .before in (
+      s .pre .0,
+      i .next-inner .kept .1 .1 .1 .1 .1 .0 ∙ i .before .before .before .before .before .next-each2 .kept .1 .1 .1 .1 .1 .1 .0 ∙ s .pre .3,
+      omega (arith, s .pre .1 .room, s .pre .0 .fits .columnsLow),
     )
 
 same-length : tie.Need-same-length
@@ -51,7 +51,7 @@ same-length-2 c = search needs
 returns : tie.Need-returns
 returns c =
     let i = c .before .before .before .before .before .before .before .before .before .before .before .before in
-    let s = i .before .before .before .before .before .before .before .before .before .before .before .before .before .before .before in
+    let s = i .before .before .before .before .before .before .before .before .before .before .before .before .before in
     let a = s .args in
     let w = s .pre .0 .fits .columnsLow in (
       whole _ (a .base) (a .columns) (a .down .now) _ _ _ w (i .before .before .before .before .before .before .before .before .before .next-each .ensures) (i .next-inner .ensures .0) (c .before .before .before .before .before .before .next-each3 .ensures),

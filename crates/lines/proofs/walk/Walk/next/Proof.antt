@@ -1,35 +1,33 @@
--- The virtual pit stays; from a post the leaves of next up and next down.
+-- The virtual pit stays; from a post the leaf of next.
 use Prim.Native.Nat.{ℕ, _*_, _<_}
-use mathlib.Core.Path.{sym, ap}
-use mathlib.Core.Bool.{true, false}
+use mathlib.Core.Path.{_≡_, refl, sym, ap, _∙_}
+use mathlib.Core.Bool.{Bool, true, false}
+use mathlib.Core.List.{List}
+use lib.IntN.{ℤ}
 use Rattle.surface.specs.Lines.{nextDown, nextUp}
-use Rattle.plot.specs.Fits.{Fits}
+use Rattle.plot.specs.Scan.{nextBy}
+use Rattle.lines.specs.Directed.{nextOf}
 use Rattle.lines.proofs.Walking.{next-pit, vertex-post}
 use Rattle.lines.proofs.walk.Walk.next.Statement.{statement}
 use Rattle.lines.proofs.walk.Walk.next.Tie as tie
 
-post : (c : tie.Else1) → let s = c .before in Fits (s .args .rows) (s .args .columns) (s .args .heights .now) × (s .args .self .post < s .args .rows * s .args .columns)
-post c = let s = c .before in (s .pre .0, vertex-post (s .pre .0) (s .args .self .post) (s .pre .1) (c .if1 .left))
+next-by : (rows columns : ℕ) (hs : List ℤ) (up : Bool) (p : ℕ) → nextBy up rows columns hs p ≡ nextOf rows columns hs up p
+unfolding nextDown nextUp
+next-by rows columns hs true p = refl
+next-by rows columns hs false p = refl
 
 returns : tie.Need-returns
 returns c =
     let s = c .before in
-    ap (λ (p : ℕ). record { post = p; up = s .args .self .up }) (sym (next-pit (s .pre .0) (s .args .self .up) (s .args .self .post) (c .if1 .taken)))
+    ap (λ (p : ℕ). record { post = p; up = s .args .self .up }) (sym (next-pit (s .pre .0 .fits) (s .args .self .up) (s .args .self .post) (c .if1 .taken)))
 
-next-up-at-requires : tie.Need-next-up-at-requires
-next-up-at-requires c κs = post (c .before)
+next-at-requires : tie.Need-next-at-requires
+next-at-requires c κs = let s = c .before in (s .pre .0, vertex-post (s .pre .0 .fits) (s .args .self .post) (s .pre .1) (c .if1 .left))
 
 returns-2 : tie.Need-returns-2
-unfolding nextUp
-returns-2 c = rw (c .before .if2 .taken) (ap (λ (p : ℕ). record { post = p; up = true }) (c .next-up-at .ensures))
-
-next-down-at-requires : tie.Need-next-down-at-requires
-next-down-at-requires c κs = post (c .before)
-
-returns-3 : tie.Need-returns-3
-unfolding nextDown
-returns-3 c = rw (c .before .if2 .left) (ap (λ (p : ℕ). record { post = p; up = false }) (c .next-down-at .ensures))
+returns-2 c =
+    let a = c .before .before .args in
+    ap (λ (p : ℕ). record { post = p; up = a .self .up }) (c .next-at .ensures ∙ next-by (a .rows) (a .columns) (a .heights .now) (a .self .up) (a .self .post))
 
 pub next-spec : {M : Type 1} → statement M
-next-spec =
-    tie.close (tie.spec returns next-up-at-requires returns-2 next-down-at-requires returns-3)
+next-spec = tie.close (tie.spec returns next-at-requires returns-2)

@@ -1,0 +1,185 @@
+-- Comparing keys is comparing posts, so the lowest key round a post is that of its next post.
+use Prim.Native.Nat.{ℕ, suc, _+_, _-_, _*_, _%_, _<_, _≤_}
+use mathlib.Core.Path.{_≡_, refl, sym, ap, _∙_}
+use mathlib.Core.Bool.{Bool, true, false, cond, not, _&&_, _||_, true≢false}
+use mathlib.Core.List.{List, [], _∷_}
+use native.Mathlib.Omega.{arith}
+use lib.Dec.{ltb}
+use lib.IntN.{ℤ, pos, negsuc, _+ℤ_}
+use lib.Signed.{ltZ}
+use borrow.Author.Tests.{ltb-true, ltb-false, lt-ltb, le-ltb, not-true}
+use Rattle.surface.specs.Plot.{isHeight, height, virtualPit, below}
+use Rattle.surface.specs.Edges.{lowestOr, Place, isBorder, throughLowest}
+use Rattle.surface.proofs.Bools.{either, and-left}
+use Rattle.surface.proofs.Order.{below-lex}
+use Rattle.plot.specs.declared.border.Borders.{Borders}
+use Rattle.plot.specs.declared.sign.Corners.{Corners}
+use Rattle.plot.specs.declared.key.Block.{Block}
+use Rattle.plot.specs.Fits.{InRange, Levelled}
+use Rattle.plot.specs.Borders.{bordersOf}
+use Rattle.plot.specs.Signs.{cornersOf, inside}
+use Rattle.plot.specs.Scan.{toward, nextBy, scan, turn, everyCorner, cornersAbove}
+use Rattle.plot.specs.Keys.{raised, keyOf, Near, blockOf, cornersKept, around, order}
+use Rattle.plot.proofs.Round.{few}
+use Rattle.plot.proofs.Extreme.{toward-strict, up-is}
+use Rattle.plot.proofs.Block.{down-block, up-block}
+
+-- heights in range, counted from the lowest
+high : (n : ℕ) → isHeight (pos n) ≡ true → n ≤ 1000000
+high n h = ltb-false 1000000 n (not-true _ h)
+
+low : (n : ℕ) → isHeight (negsuc n) ≡ true → n ≤ 999999
+low n h = ltb-false 999999 n (not-true _ (and-left _ _ h))
+
+pub raised-high : (z : ℤ) → isHeight z ≡ true → raised z ≤ 2000000
+unfolding raised
+raised-high (pos n) h = omega (arith, high n h)
+raised-high (negsuc n) h = omega arith
+
+pub raised-sum : (z : ℤ) → isHeight z ≡ true → z +ℤ pos 1000000 ≡ pos (raised z)
+unfolding raised
+raised-sum (pos n) h = refl
+raised-sum (negsuc n) h = rw (le-ltb 1000000 (suc n) (omega (arith, low n h))) (ap pos (omega arith))
+
+both : (a b c d : ℕ) → ((a < b) → c < d) → ((b ≤ a) → d ≤ c) → ltb c d ≡ ltb a b
+both a b c d f g = either (ltb a b) (λ e. lt-ltb c d (f (ltb-true a b e)) ∙ sym e) (λ e. le-ltb c d (g (ltb-false a b e)) ∙ sym e)
+
+raised-less : (a b : ℤ) → isHeight a ≡ true → isHeight b ≡ true → ltb (raised a) (raised b) ≡ ltZ a b
+unfolding raised
+raised-less (pos a) (pos b) h k = both a b (a + 1000000) (b + 1000000) (λ e. omega arith) (λ e. omega arith)
+raised-less (pos a) (negsuc b) h k = le-ltb (a + 1000000) (999999 - b) (omega arith)
+raised-less (negsuc a) (pos b) h k = lt-ltb (999999 - a) (b + 1000000) (omega arith)
+raised-less (negsuc a) (negsuc b) h k = both b a (999999 - a) (999999 - b) (λ e. omega (arith, low a h)) (λ e. omega arith)
+
+unfoldable AllNear : ℕ → ℕ → List Place → Type 0
+AllNear columns p [] = Unit {0}
+AllNear columns p (y ∷ l) = Near columns p (y .member) × AllNear columns p l
+
+turn-near : (columns p : ℕ) (at : Borders) (with : Corners) → AllNear columns p (turn columns p at with)
+unfolding AllNear
+turn-near columns p at with = omega arith
+
+module _ (hs : List ℤ) (columns p : ℕ) where
+  abbrev key : ℕ → ℕ
+  key = keyOf hs columns p
+
+  -- the keys of places, p's own where there is no neighbour
+  unfoldable keys : List Place → List ℕ
+  keys [] = []
+  keys (y ∷ l) = key (cond (y .taken) (y .member) p) ∷ keys l
+
+  -- a key tells its post
+  pub record Tells (k q : ℕ) : Type 0 where
+    pub placed : columns + 1 ≤ p + k % 256
+    pub post : p + k % 256 - (columns + 1) ≡ q
+
+  module _ (inRange : InRange hs) (narrow : columns ≤ 120) (small : p < 14400) where
+    -- of two keys, by the heights and then by the places
+    key-first : (q r : ℕ) → Near columns p q → raised (height hs q) < raised (height hs r) → key q < key r
+    key-first q r m h = omega arith
+
+    key-level : (q r : ℕ) → Near columns p q → Near columns p r → raised (height hs q) ≡ raised (height hs r) → ltb (key q) (key r) ≡ ltb q r
+    key-level q r m n h = both q r (key q) (key r) (λ e. omega arith) (λ e. omega arith)
+
+    key-below : (q r : ℕ) → Near columns p q → Near columns p r → ltb (key q) (key r) ≡ below hs q r
+    unfolding virtualPit
+    key-below q r m n =
+        either (ltZ a b)
+        (λ e. lt-ltb (key q) (key r) (key-first q r m (ltb-true _ _ (raised-less a b (inRange q) (inRange r) ∙ e))) ∙ sym (lex ∙ rw e))
+        (λ e.
+        either (ltZ b a)
+        (λ f. le-ltb (key q) (key r) (later (key-first r q n (ltb-true _ _ (raised-less b a (inRange r) (inRange q) ∙ f)))) ∙ sym (lex ∙ rw (e, f)))
+        (λ f. key-level q r m n (level e f) ∙ sym (lex ∙ rw (e, f))))
+      where
+        a : ℤ
+        a = height hs q
+
+        b : ℤ
+        b = height hs r
+
+        lex : below hs q r ≡ ltZ a b || (not (ltZ b a) && ltb q r)
+        lex = below-lex hs q r (λ e. omega arith) (λ e. omega arith)
+
+        later : key r < key q → key r ≤ key q
+        later h = omega arith
+
+        level : ltZ a b ≡ false → ltZ b a ≡ false → raised a ≡ raised b
+        level e f =
+            omega (arith, ltb-false (raised a) (raised b) (raised-less a b (inRange q) (inRange r) ∙ e), ltb-false (raised b) (raised a) (raised-less b a (inRange r) (inRange q) ∙ f))
+
+    order-key : (up : Bool) (q r : ℕ) → Near columns p q → Near columns p r → order up (key q) (key r) ≡ toward hs up q r
+    order-key true q r m n = key-below r q n m
+    order-key false q r m n = key-below q r m n
+
+    -- the lowest key is that of what the scan finds
+    found : (up : Bool) (x : ℕ) (l : List Place) → Near columns p x → toward hs up p x ≡ false → AllNear columns p l
+        → (lowestOr (order up) (key x) (keys l) ≡ key (scan (toward hs up) x l)) × Near columns p (scan (toward hs up) x l)
+    unfolding scan lowestOr keys AllNear
+    found up x [] n h a = (refl, n)
+    found up x (y ∷ l) n h a = go (y .taken) (λ f. found up (y .member) l (a .0) f (a .1)) (found up x l n h (a .1))
+      where
+        Told : ℕ → ℕ → Type 0
+        Told k z = (lowestOr (order up) k (keys l) ≡ key (scan (toward hs up) z l)) × Near columns p (scan (toward hs up) z l)
+
+        above : toward hs up (y .member) x ≡ true → toward hs up p (y .member) ≡ false
+        above e = either (toward hs up p (y .member)) (λ f. absurd (true≢false (sym (toward-strict hs up .trans p (y .member) x f e) ∙ h))) (λ f. f)
+
+        go : (t : Bool) → (toward hs up p (y .member) ≡ false → Told (key (y .member)) (y .member)) → Told (key x) x
+            → let m = key (cond t (y .member) p) in
+            Told (cond (order up m (key x)) m (key x)) (cond t (cond (toward hs up (y .member) x) (y .member) x) x)
+        go true i j =
+            rw (order-key up (y .member) x (a .0) n)
+            (either (toward hs up (y .member) x) (λ e. rw e (i (above e))) (λ e. rw e j))
+        go false i j = rw (order-key up p x (omega arith, omega arith) n, h) j
+
+    tells : (k q : ℕ) → k ≡ key q → Near columns p q → Tells k q
+    tells k q e n = rw e (record { placed = omega arith; post = omega arith })
+
+    found-told : (up : Bool) (k q : ℕ) (l : List Place) → AllNear columns p l → k ≡ lowestOr (order up) (key p) (keys l) → q ≡ scan (toward hs up) p l → Tells k q
+    found-told up k q l a e f =
+        let w = found up p l (omega arith, omega arith) (toward-strict hs up .irrefl p) a in
+        tells k q (e ∙ w .0 ∙ ap key (sym f)) (rw f (w .1))
+
+    -- the block with its corners kept is that of the corners above p
+    pull : (g : Bool) (a b : ℕ) → cond g (key a) (key b) ≡ key (cond g a b)
+    pull true a b = refl
+    pull false a b = refl
+
+    kept-keys : around (cornersKept (blockOf key columns p inside everyCorner)) ≡ keys (turn columns p inside (cornersAbove (below hs) columns p))
+    unfolding keys
+    kept-keys =
+        let k : (q : ℕ) → Near columns p q → ltb (key p) (key q) ≡ below hs p q = λ q n. key-below p q (omega arith, omega arith) n in
+        let n = k (p - columns) (omega arith, omega arith) in
+        let e = k (p + 1) (omega arith, omega arith) in
+        let s = k (p + columns) (omega arith, omega arith) in
+        let w = k (p - 1) (omega arith, omega arith) in
+        rw (n, e, s, w, pull _ (p - (columns - 1)) p, pull _ (p + (columns + 1)) p, pull _ (p + (columns - 1)) p, pull _ (p - (columns + 1)) p)
+
+-- next down and next up, by the lowest and the highest key
+module _ {rows columns : ℕ} {hs : List ℤ} (l : Levelled rows columns hs) (p : ℕ) (post : p < rows * columns) where
+  abbrev block : Borders → Corners → Block
+  block = blockOf (keyOf hs columns p) columns p
+
+  small : p < 14400
+  small = omega (arith, few (l .fits))
+
+  told : (up : Bool) (k : ℕ) (at : Borders) (with : Corners) → k ≡ lowestOr (order up) (keyOf hs columns p p) (keys hs columns p (turn columns p at with))
+      → nextBy up rows columns hs p ≡ scan (toward hs up) p (turn columns p at with) → Tells hs columns p k (nextBy up rows columns hs p)
+  told up k at with e f = found-told hs columns p (l .inRange) (l .fits .columnsHigh) small up k _ _ (turn-near columns p at with) e f
+
+  pub border-told : (k : ℕ)
+      → k ≡ lowestOr (order true) (keyOf hs columns p p) (around (block (bordersOf rows columns p) (cornersOf rows columns (throughLowest (below hs) columns) p)))
+      → Tells hs columns p k (nextBy true rows columns hs p)
+  unfolding keys
+  border-told k e = told true k (bordersOf rows columns p) (cornersOf rows columns (throughLowest (below hs) columns) p) e (up-is (l .fits) p post)
+
+  module _ (border : isBorder rows columns p ≡ false) where
+    pub down-told : (k : ℕ) → k ≡ lowestOr (order false) (keyOf hs columns p p) (around (block inside everyCorner)) → Tells hs columns p k (nextBy false rows columns hs p)
+    unfolding keys
+    down-told k e = told false k inside everyCorner e (down-block (l .fits) p post border)
+
+    pub up-told : (k : ℕ) → k ≡ lowestOr (order true) (keyOf hs columns p p) (around (cornersKept (block inside everyCorner))) → Tells hs columns p k (nextBy true rows columns hs p)
+    up-told k e =
+        told true k inside (cornersAbove (below hs) columns p)
+        (e ∙ ap (lowestOr (order true) (keyOf hs columns p p)) (kept-keys hs columns p (l .inRange) (l .fits .columnsHigh) small))
+        (up-block (l .fits) p post border)

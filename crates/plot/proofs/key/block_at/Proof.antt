@@ -1,0 +1,77 @@
+-- The posts that are there are posts of the plot.
+use native.Mathlib.Omega.{arith}
+use borrow.Author.Needs.{needs}
+use Rattle.plot.proofs.key.block_at.Statement.{statement}
+use Rattle.plot.proofs.key.block_at.Tie as tie
+
+key-of-requires : tie.Need-key-of-requires
+key-of-requires c κs = search needs
+
+key-back-requires : tie.Need-key-back-requires
+key-back-requires c κs = search needs
+
+sub-key-back : tie.Need-sub-key-back
+sub-key-back c = search needs
+
+key-back-requires-2 : tie.Need-key-back-requires-2
+key-back-requires-2 c κs =
+    let start = c .before .before .before in
+    (start .pre .0, omega arith, omega arith, omega arith, omega (arith, start .pre .1 .wide), λ h. omega (arith, start .pre .1 .northEast h))
+
+key-ahead-requires : tie.Need-key-ahead-requires
+key-ahead-requires c κs = search needs
+
+add-key-ahead : tie.Need-add-key-ahead
+add-key-ahead c = search needs
+
+key-ahead-requires-2 : tie.Need-key-ahead-requires-2
+key-ahead-requires-2 c κs =
+    let start = c .before .before .before .before .before .before in
+    (start .pre .0, omega arith, omega arith, omega arith, omega (arith, start .pre .1 .wide), λ h. omega (arith, start .pre .1 .southEast h))
+
+key-ahead-requires-3 : tie.Need-key-ahead-requires-3
+key-ahead-requires-3 c κs = search needs
+
+sub-key-ahead : tie.Need-sub-key-ahead
+sub-key-ahead c = search needs
+
+key-ahead-requires-4 : tie.Need-key-ahead-requires-4
+key-ahead-requires-4 c κs =
+    let start = c .before .before .before .before .before .before .before .before .before in
+    (start .pre .0, omega arith, omega arith, omega arith, omega (arith, start .pre .1 .wide), λ h. omega (arith, start .pre .1 .southWest h))
+
+key-back-requires-3 : tie.Need-key-back-requires-3
+key-back-requires-3 c κs =
+    let start = c .before .before .before .before .before .before .before .before .before .before .before in
+    (start .pre .0, omega arith, omega arith, omega arith, omega (arith, start .pre .1 .wide), λ h. omega (arith, start .pre .1 .west h))
+
+add-key-back : tie.Need-add-key-back
+add-key-back c = search needs
+
+key-back-requires-4 : tie.Need-key-back-requires-4
+key-back-requires-4 c κs =
+    let start = c .before .before .before .before .before .before .before .before .before .before .before .before in
+    (start .pre .0, omega arith, omega arith, omega arith, omega (arith, start .pre .1 .wide), λ h. omega (arith, start .pre .1 .northWest h))
+
+returns : tie.Need-returns
+returns c =
+    rw (c .key-back4 .ensures, c .before .key-back3 .ensures, c .before .before .before .key-ahead4 .ensures, c .before .before .before .before .key-ahead3 .ensures, c .before .before .before .before .before .before .key-ahead2 .ensures, c .before .before .before .before .before .before .before .key-ahead .ensures, c .before .before .before .before .before .before .before .before .before .key-back2 .ensures, c .before .before .before .before .before .before .before .before .before .before .key-back .ensures, c .before .before .before .before .before .before .before .before .before .before .before .before .key-of .ensures)
+
+pub block-at-spec : {M : Type 1} → statement M
+block-at-spec =
+    tie.close
+    (tie.spec
+    key-of-requires
+    key-back-requires
+    sub-key-back
+    key-back-requires-2
+    key-ahead-requires
+    add-key-ahead
+    key-ahead-requires-2
+    key-ahead-requires-3
+    sub-key-ahead
+    key-ahead-requires-4
+    key-back-requires-3
+    add-key-back
+    key-back-requires-4
+    returns)

@@ -1,0 +1,64 @@
+-- Keys: the height of a post q and its place in the block of nine round p, in one number. In a plot of at most 120 columns a place is below 256, so
+-- comparing keys is comparing posts in the height order.
+use Prim.Native.Nat.{ℕ, _+_, _-_, _*_, _≤_}
+use mathlib.Core.Bool.{Bool, cond, not, _&&_}
+use mathlib.Core.List.{List, [], _∷_}
+use lib.Dec.{ltb}
+use lib.IntN.{ℤ, pos, negsuc}
+use Rattle.surface.specs.Plot.{height}
+use Rattle.plot.specs.declared.border.Borders.{Borders}
+use Rattle.plot.specs.declared.sign.Corners.{Corners}
+use Rattle.plot.specs.declared.key.Block.{Block}
+
+-- a height counted from the lowest there may be
+unfoldable pub raised : ℤ → ℕ
+raised (pos n) = n + 1000000
+raised (negsuc n) = 999999 - n
+
+abbrev pub keyOf : List ℤ → ℕ → ℕ → ℕ → ℕ
+keyOf hs columns p q = raised (height hs q) * 256 + (q + columns + 1 - p)
+
+-- q is in the block
+abbrev pub Near : ℕ → ℕ → ℕ → Type 0
+Near columns p q = (p ≤ q + columns + 1) × (q ≤ p + columns + 1)
+
+-- the keys of p and of the posts round it; where there is no neighbour, p's own
+abbrev pub blockOf : (ℕ → ℕ) → ℕ → ℕ → Borders → Corners → Block
+blockOf key columns p at with =
+    record {
+      post = key p;
+      n = key (cond (not (at .top)) (p - columns) p);
+      ne = key (cond (with .ne) (p - (columns - 1)) p);
+      e = key (cond (not (at .last)) (p + 1) p);
+      se = key (cond (with .se) (p + (columns + 1)) p);
+      s = key (cond (not (at .bottom)) (p + columns) p);
+      sw = key (cond (with .sw) (p + (columns - 1)) p);
+      w = key (cond (not (at .first)) (p - 1) p);
+      nw = key (cond (with .nw) (p - (columns + 1)) p);
+    }
+
+-- a block with those corners only that have both sides of their cell above the post
+abbrev pub cornersKept : Block → Block
+cornersKept b =
+    let n = ltb (b .post) (b .n) in
+    let e = ltb (b .post) (b .e) in
+    let s = ltb (b .post) (b .s) in
+    let w = ltb (b .post) (b .w) in
+    record {
+      post = b .post;
+      n = b .n;
+      ne = cond (n && e) (b .ne) (b .post);
+      e = b .e;
+      se = cond (s && e) (b .se) (b .post);
+      s = b .s;
+      sw = cond (s && w) (b .sw) (b .post);
+      w = b .w;
+      nw = cond (n && w) (b .nw) (b .post);
+    }
+
+abbrev pub around : Block → List ℕ
+around b = b .n ∷ b .ne ∷ b .e ∷ b .se ∷ b .s ∷ b .sw ∷ b .w ∷ b .nw ∷ []
+
+-- numbers in their order, or in that order reversed
+abbrev pub order : Bool → ℕ → ℕ → Bool
+order up a b = cond up (ltb b a) (ltb a b)

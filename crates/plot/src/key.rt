@@ -1,0 +1,127 @@
+// The posts round a post as keys: a post's height and its place in the block of nine, in one number, so that one comparison settles a tie too.
+use crate::border::Borders;
+use crate::side;
+use crate::sign::Corners;
+ghost use mathlib.Core.Path.{_≡_};
+ghost use mathlib.Core.Bool.{true, cond};
+ghost use Prim.Native.Nat.{_+_, _-_, _≤_, _<_, _%_};
+ghost use lib.ListN.{length};
+ghost use Rattle.surface.specs.Plot.{isHeight};
+ghost use Rattle.surface.specs.Edges.{lowestOr};
+ghost use Rattle.plot.specs.Fits.{InRange};
+ghost use Rattle.plot.specs.Signs.{Room};
+ghost use Rattle.plot.specs.Scan.{lowerOf};
+ghost use Rattle.plot.specs.Keys.{raised, keyOf, Near, blockOf, cornersKept, around, order};
+
+// The keys of a post and of the eight round it. Where there is no neighbour it is the post's own, which is never chosen before another.
+pub struct Block {
+    pub post: u32,
+    pub n: u32,
+    pub ne: u32,
+    pub e: u32,
+    pub se: u32,
+    pub s: u32,
+    pub sw: u32,
+    pub w: u32,
+    pub nw: u32,
+}
+
+// A height counted from the lowest there may be.
+pub fn raise(h: i32) -> u32
+    requires { ⌜ isHeight h ≡ true ⌝ }
+    ensures { λ r. ⌜ (r ≡ raised h) × (r ≤ 2000000) ⌝ }
+{
+    (h + 1000000) as u32
+}
+
+// The key of q among the posts round p.
+pub fn key_of(heights: &[i32], columns: usize, p: usize, q: usize) -> u32
+    requires { ⌜ InRange (now heights) × (q < length (now heights)) × (length (now heights) ≤ 14400) × (columns ≤ 120) × Near columns p q ⌝ }
+    ensures { λ r. ⌜ r ≡ keyOf (now (heights .entry)) columns p q ⌝ }
+{
+    raise(heights[q]) * 256 + (q + columns + 1 - p) as u32
+}
+
+// The key of the post d numbers before p, or p's own where it is not there.
+pub fn key_back(heights: &[i32], columns: usize, p: usize, d: usize, there: bool) -> u32
+    requires { ⌜ InRange (now heights) × (p < length (now heights)) × (length (now heights) ≤ 14400) × (columns ≤ 120) × (d ≤ columns + 1) × (there ≡ true → d ≤ p) ⌝ }
+    ensures { λ r. ⌜ r ≡ keyOf (now (heights .entry)) columns p (cond there (p - d) p) ⌝ }
+{
+    key_of(heights, columns, p, p - side::choose(there, d, 0))
+}
+
+// The same of the post d numbers after p.
+pub fn key_ahead(heights: &[i32], columns: usize, p: usize, d: usize, there: bool) -> u32
+    requires { ⌜ InRange (now heights) × (p < length (now heights)) × (length (now heights) ≤ 14400) × (columns ≤ 120) × (d ≤ columns + 1) × (there ≡ true → p + d < length (now heights)) ⌝ }
+    ensures { λ r. ⌜ r ≡ keyOf (now (heights .entry)) columns p (cond there (p + d) p) ⌝ }
+{
+    key_of(heights, columns, p, p + side::choose(there, d, 0))
+}
+
+// The keys round p, which stands at these borders and is joined to these corners.
+pub fn block_at(heights: &[i32], columns: usize, p: usize, at: Borders, with: Corners) -> Block
+    requires { ⌜ InRange (now heights) × Room (length (now heights)) columns p at with ⌝ }
+    ensures { λ r. ⌜ r ≡ blockOf (keyOf (now (heights .entry)) columns p) columns p at with ⌝ }
+{
+    Block {
+        post: key_of(heights, columns, p, p),
+        n: key_back(heights, columns, p, columns, !at.top),
+        ne: key_back(heights, columns, p, columns - 1, with.ne),
+        e: key_ahead(heights, columns, p, 1, !at.last),
+        se: key_ahead(heights, columns, p, columns + 1, with.se),
+        s: key_ahead(heights, columns, p, columns, !at.bottom),
+        sw: key_ahead(heights, columns, p, columns - 1, with.sw),
+        w: key_back(heights, columns, p, 1, !at.first),
+        nw: key_back(heights, columns, p, columns + 1, with.nw),
+    }
+}
+
+// The block with those corners only that have both sides of their cell above the post.
+pub fn keep_corners(b: Block) -> Block
+    ensures { λ r. ⌜ r ≡ cornersKept b ⌝ }
+{
+    let n = b.post < b.n;
+    let e = b.post < b.e;
+    let s = b.post < b.s;
+    let w = b.post < b.w;
+    Block {
+        post: b.post,
+        n: b.n,
+        ne: side::choose_key(n & e, b.ne, b.post),
+        e: b.e,
+        se: side::choose_key(s & e, b.se, b.post),
+        s: b.s,
+        sw: side::choose_key(s & w, b.sw, b.post),
+        w: b.w,
+        nw: side::choose_key(n & w, b.nw, b.post),
+    }
+}
+
+// The lower of two keys, the higher where `up`.
+pub fn lower_of(up: bool, x: u32, y: u32) -> u32
+    ensures { λ r. ⌜ r ≡ lowerOf (order up) x y ⌝ }
+{
+    side::choose_key(side::pick(up, x < y, y < x), y, x)
+}
+
+// The lowest key of a block, the highest where `up`.
+pub fn lowest_in(up: bool, b: Block) -> u32
+    ensures { λ r. ⌜ r ≡ lowestOr (order up) (b .post) (around b) ⌝ }
+{
+    let n = lower_of(up, b.post, b.n);
+    let ne = lower_of(up, n, b.ne);
+    let e = lower_of(up, ne, b.e);
+    let se = lower_of(up, e, b.se);
+    let s = lower_of(up, se, b.s);
+    let sw = lower_of(up, s, b.sw);
+    let w = lower_of(up, sw, b.w);
+    lower_of(up, w, b.nw)
+}
+
+// The post that has key k among those round p.
+pub fn post_of(columns: usize, p: usize, k: u32) -> usize
+    requires { ⌜ (columns ≤ 120) × (p < 14400) × (columns + 1 ≤ p + k % 256) ⌝ }
+    ensures { λ r. ⌜ r ≡ p + k % 256 - (columns + 1) ⌝ }
+{
+    p + (k % 256) as usize - (columns + 1)
+}
