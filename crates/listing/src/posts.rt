@@ -42,11 +42,11 @@ fn put_runs(
     p: usize,
     ring: Ring,
     ends: &[u16],
-    buffer: &mut [u8],
+    out: &mut [u8],
     at: usize,
 ) -> usize
-    requires { ⌜ Saddle rows columns (now heights) up p ring (now ends) × (at + 480 ≤ length (now buffer)) ⌝ }
-    ensures { λ r. ⌜ Wrote 480 (now (buffer .entry)) (now (buffer .exit)) at (runLines rows columns (now (heights .entry)) up letter p (length (runsOf rows columns (now (heights .entry)) up p))) r ⌝ }
+    requires { ⌜ Saddle rows columns (now heights) up p ring (now ends) × (at + 480 ≤ length (now out)) ⌝ }
+    ensures { λ r. ⌜ Wrote 480 (now (out .entry)) (now (out .exit)) at (runLines rows columns (now (heights .entry)) up letter p (length (runsOf rows columns (now (heights .entry)) up p))) r ⌝ }
 {
     let len = ring.len;
     let mut next = at;
@@ -58,7 +58,7 @@ fn put_runs(
         }
         let first = lowest_from(heights, up, p, ring, place);
         let end = end_from(ends, first);
-        next = put_line(buffer, next, letter, p as u32, run, end);
+        next = put_line(out, next, letter, p as u32, run, end);
         run += 1;
     }
     next
@@ -72,40 +72,18 @@ pub fn put_post(
     dales: &[u16],
     hills: &[u16],
     p: usize,
-    buffer: &mut [u8],
+    out: &mut [u8],
     at: usize,
 ) -> usize
-    requires { ⌜ Parted rows columns (now heights) (now dales) (now hills) × (p < rows * columns) × (at + 960 ≤ length (now buffer)) ⌝ }
-    ensures { λ r. ⌜ Wrote 960 (now (buffer .entry)) (now (buffer .exit)) at (postLines rows columns (now (heights .entry)) p) r ⌝ }
+    requires { ⌜ Parted rows columns (now heights) (now dales) (now hills) × (p < rows * columns) × (at + 960 ≤ length (now out)) ⌝ }
+    ensures { λ r. ⌜ Wrote 960 (now (out .entry)) (now (out .exit)) at (postLines rows columns (now (heights .entry)) p) r ⌝ }
 {
     if mark_at(heights, rows, columns, p) < 3 {
         return at;
     }
     let ring = ring_at(heights, rows, columns, p);
-    let crest = put_runs(
-        heights,
-        rows,
-        columns,
-        false,
-        b'T',
-        p,
-        ring,
-        dales,
-        buffer,
-        at,
-    );
-    put_runs(
-        heights,
-        rows,
-        columns,
-        true,
-        b'R',
-        p,
-        ring,
-        hills,
-        buffer,
-        crest,
-    )
+    let end = put_runs(heights, rows, columns, false, b'T', p, ring, dales, out, at);
+    put_runs(heights, rows, columns, true, b'R', p, ring, hills, out, end)
 }
 
 // The lines of as many posts from `from` on as there is room for.
@@ -116,17 +94,17 @@ pub fn put_posts(
     dales: &[u16],
     hills: &[u16],
     from: usize,
-    buffer: &mut [u8],
+    out: &mut [u8],
 ) -> Filled
-    requires { ⌜ Parted rows columns (now heights) (now dales) (now hills) × (from ≤ rows * columns) × (960 ≤ length (now buffer)) ⌝ }
-    ensures { λ r. ⌜ Listed rows columns (now (heights .entry)) from (now (buffer .entry)) (now (buffer .exit)) r ⌝ }
+    requires { ⌜ Parted rows columns (now heights) (now dales) (now hills) × (from ≤ rows * columns) × (960 ≤ length (now out)) ⌝ }
+    ensures { λ r. ⌜ Listed rows columns (now (heights .entry)) from (now (out .entry)) (now (out .exit)) r ⌝ }
 {
     let posts = rows * columns;
-    let last = buffer.len() - 960;
+    let last = out.len() - 960;
     let mut post = from;
     let mut bytes = 0;
     while (post < posts) & (bytes <= last) {
-        bytes = put_post(heights, rows, columns, dales, hills, post, buffer, bytes);
+        bytes = put_post(heights, rows, columns, dales, hills, post, out, bytes);
         post += 1;
     }
     Filled { post, bytes }

@@ -13,7 +13,7 @@ mark-at-requires c κs = search needs
 returns : tie.Need-returns
 returns c =
     let s = c .before .before .before .before .before in
-    no-saddle (s .args .rows) (s .args .columns) (s .args .heights .now) (s .args .p) (s .args .buffer .now) (s .args .at) (omega (arith, c .before .mark-at .ensures, c .if1 .taken))
+    no-saddle (s .args .rows) (s .args .columns) (s .args .heights .now) (s .args .p) (s .args .out .now) (s .args .at) (omega (arith, c .before .mark-at .ensures, c .if1 .taken))
 
 -- the post is a saddle
 saddle : (c : tie.Else1) → let a = c .before .before .before .before .before .args in markAt (a .rows) (a .columns) (a .heights .now) (a .p) < 3 → ⊥

@@ -12,11 +12,11 @@ use Rattle.listing.proofs.posts.put_posts.Statement.{statement}
 use Rattle.listing.proofs.posts.put_posts.Tie as tie
 
 abbrev Inv-loop : tie.InvT-loop
-Inv-loop heights rows columns dales hills from buffer₀ posts last post₀ bytes₀ buffer post bytes =
-    (posts ≡ rows * columns) × (last + 960 ≡ length buffer₀) × (post ≤ rows * columns) × Going rows columns heights from buffer₀ buffer last post bytes
+Inv-loop heights rows columns dales hills from out₀ posts last post₀ bytes₀ out post bytes =
+    (posts ≡ rows * columns) × (last + 960 ≡ length out₀) × (post ≤ rows * columns) × Going rows columns heights from out₀ out last post bytes
 
 abbrev μ-loop : tie.MeasureT-loop
-μ-loop heights rows columns dales hills from buffer₀ posts last post₀ bytes₀ buffer post bytes = posts - post
+μ-loop heights rows columns dales hills from out₀ posts last post₀ bytes₀ out post bytes = posts - post
 
 mul-posts : tie.Need-mul-posts Inv-loop μ-loop
 mul-posts c = omega (arith, few (c .before .before .before .pre .0 .fits))
@@ -31,7 +31,7 @@ abbrev Posts : (l : tie.At-loop Inv-loop μ-loop) → ℕ
 Posts l = A l .args .rows * A l .args .columns
 
 abbrev Last : (l : tie.At-loop Inv-loop μ-loop) → ℕ
-Last l = length (A l .args .buffer .now) - 960
+Last l = length (A l .args .out .now) - 960
 
 -- a turn has a post left and room for its lines
 left : (c : tie.In-loop Inv-loop μ-loop) → c .before .loop .post < Posts (c .before)
@@ -50,7 +50,7 @@ loop-holds c =
       refl,
       omega (arith, s .pre .2),
       s .pre .1,
-      going-none (s .args .rows) (s .args .columns) (s .args .heights .now) (s .args .from) (s .args .buffer .now) _,
+      going-none (s .args .rows) (s .args .columns) (s .args .heights .now) (s .args .from) (s .args .out .now) _,
     )
 
 put-post-requires : tie.Need-put-post-requires Inv-loop μ-loop

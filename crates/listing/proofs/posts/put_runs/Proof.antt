@@ -13,14 +13,14 @@ use Rattle.listing.proofs.posts.put_runs.Statement.{statement}
 use Rattle.listing.proofs.posts.put_runs.Tie as tie
 
 abbrev Inv-loop : tie.InvT-loop
-Inv-loop heights rows columns up letter p ring ends buffer₀ at len next₀ run₀ buffer next run =
+Inv-loop heights rows columns up letter p ring ends out₀ at len next₀ run₀ out next run =
     (len ≡ ring .len)
     × (run ≤ length (runsOf rows columns heights up p))
-    × Wrote (60 * run) buffer₀ buffer at (runLines rows columns heights up letter p run) next
-    × (length buffer ≡ length buffer₀)
+    × Wrote (60 * run) out₀ out at (runLines rows columns heights up letter p run) next
+    × (length out ≡ length out₀)
 
 abbrev μ-loop : tie.MeasureT-loop
-μ-loop heights rows columns up letter p ring ends buffer₀ at len next₀ run₀ buffer next run = 8 - run
+μ-loop heights rows columns up letter p ring ends out₀ at len next₀ run₀ out next run = 8 - run
 
 -- the arguments, and what was asked of them, seen from the loop's head
 abbrev A : (l : tie.At-loop Inv-loop μ-loop) → tie.Start Inv-loop μ-loop
@@ -43,7 +43,7 @@ there c =
 loop-holds : tie.Need-loop-holds Inv-loop μ-loop
 loop-holds c =
     let a = c .before .before .args in
-    (refl, omega arith, no-lines (a .rows) (a .columns) (a .heights .now) (a .up) (a .letter) (a .p) (a .buffer .now) (a .at), refl)
+    (refl, omega arith, no-lines (a .rows) (a .columns) (a .heights .now) (a .up) (a .letter) (a .p) (a .out .now) (a .at), refl)
 
 run-at-requires : tie.Need-run-at-requires Inv-loop μ-loop
 run-at-requires c κs = rounded (asked c)
