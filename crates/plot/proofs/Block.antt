@@ -2,7 +2,7 @@
 -- cell, the cell's lowest post stands beside p and is lower than the one across. Upward a corner above p is joined to it exactly where p is the cell's
 -- lowest post, so where both sides of the cell are above p too. Over any strict total order.
 use Prim.Native.Nat.{ℕ, _+_, _-_, _*_, _<_, _≤_}
-use mathlib.Core.Path.{_≡_, refl, sym, ap, _∙_}
+use mathlib.Core.Path.{_≡_, refl, sym, ap, subst, _∙_}
 use mathlib.Core.Logic.{_⊎_, ⊎-elim, inl, inr}
 use mathlib.Core.Bool.{Bool, true, false, cond, not, _&&_, true≢false, or-true, and-false}
 use mathlib.Core.List.{List, [], _∷_, _++_, List·Memᴰ, List·Memᴰ·head, List·Memᴰ·tail, List·Memᴰ·cases-cons, List·Memᴰ·not-nil}
@@ -16,11 +16,13 @@ use Rattle.surface.proofs.Bools.{either}
 use Rattle.surface.proofs.Order.{StrictTotal, below-strict, reversed-strict}
 use Rattle.surface.proofs.Lowest.{lowest-member, lowest-least}
 use Rattle.plot.specs.Fits.{Fits}
-use Rattle.plot.specs.Signs.{inside, cornersBy, Room, Inside}
+use Rattle.plot.specs.Borders.{bordersOf}
+use Rattle.plot.specs.Signs.{inside, cells, cornersBy, Room, Inside}
+use Rattle.plot.specs.declared.border.Borders.{Borders}
 use Rattle.plot.specs.declared.sign.Corners.{Corners}
 use Rattle.plot.specs.Scan.{toward, nextBy, lowerOf, step, scan, turn, everyCorner, cornersAbove}
-use Rattle.plot.proofs.Round.{few, inside-bounds}
-use Rattle.plot.proofs.Extreme.{to-front, next-is}
+use Rattle.plot.proofs.Round.{north, south, southEast, northWest, room, inside-bounds, borders-are}
+use Rattle.plot.proofs.Extreme.{to-front, up-is, next-is}
 
 module _ (lower : ℕ → ℕ → Bool) (o : StrictTotal lower) where
   asym : (a b : ℕ) → lower a b ≡ true → lower b a ≡ false
@@ -139,18 +141,18 @@ module _ (lower : ℕ → ℕ → Bool) (o : StrictTotal lower) where
     in-se = List·Memᴰ·tail (List·Memᴰ·tail (List·Memᴰ·tail (List·Memᴰ·head refl)))
 
     -- from each post of the cell to the one across
-    from-nw : lower a (a + columns + 1) ≡ true → throughLowest lower columns a ≡ lower a (a + columns) && lower a (a + 1)
+    from-nw : lower a (a + columns + 1) ≡ true → throughLowest lower columns a ≡ lower a (a + 1) && lower a (a + columns)
     from-nw =
         joined-above
         (record {
           p-in = in-nw;
-          x-in = in-sw;
-          y-in = in-ne;
+          x-in = in-ne;
+          y-in = in-sw;
           x-other = λ e. omega arith;
           y-other = λ e. omega arith;
-          one = one-of inl (λ i. inr (inr (inr i))) (λ i. inr (inr (inl i))) (λ i. inr (inl i));
+          one = one-of inl (λ i. inr (inr (inl i))) (λ i. inr (inr (inr i))) (λ i. inr (inl i));
         })
-        _ told-nw told-sw told-ne
+        _ told-nw told-ne told-sw
 
     from-ne : lower (a + 1) (a + columns) ≡ true → not (throughLowest lower columns a) ≡ lower (a + 1) (a + columns + 1) && lower (a + 1) a
     from-ne =
@@ -178,18 +180,18 @@ module _ (lower : ℕ → ℕ → Bool) (o : StrictTotal lower) where
         })
         _ (λ i. ap not (told-sw i)) (λ i. ap not (told-nw i)) (λ i. ap not (told-se i))
 
-    from-se : lower (a + columns + 1) a ≡ true → throughLowest lower columns a ≡ lower (a + columns + 1) (a + 1) && lower (a + columns + 1) (a + columns)
+    from-se : lower (a + columns + 1) a ≡ true → throughLowest lower columns a ≡ lower (a + columns + 1) (a + columns) && lower (a + columns + 1) (a + 1)
     from-se =
         joined-above
         (record {
           p-in = in-se;
-          x-in = in-ne;
-          y-in = in-sw;
+          x-in = in-sw;
+          y-in = in-ne;
           x-other = λ e. omega arith;
           y-other = λ e. omega arith;
-          one = one-of (λ i. inr (inl i)) (λ i. inr (inr (inl i))) (λ i. inr (inr (inr i))) inl;
+          one = one-of (λ i. inr (inl i)) (λ i. inr (inr (inr i))) (λ i. inr (inr (inl i))) inl;
         })
-        _ told-se told-ne told-sw
+        _ told-se told-sw told-ne
 
   module _ (columns p : ℕ) (wide : 2 ≤ columns) (far : columns + 1 ≤ p) where
     abbrev falls : ℕ → Bool
@@ -253,7 +255,9 @@ module _ (lower : ℕ → ℕ → Bool) (o : StrictTotal lower) where
     pub every-corner : scan lower p (turn columns p inside joinedCorners) ≡ scan lower p (turn columns p inside everyCorner)
     every-corner = ne-free _ _ _ ∙ se-free _ _ _ ∙ sw-free _ _ _ ∙ nw-free _ _ _
 
-    -- upward: a place's flag matters only where its post is above p
+  -- upward, round any post
+  module _ (columns p : ℕ) (wide : 2 ≤ columns) where
+    -- a place's flag matters only where its post is above p
     abbrev higher : ℕ → ℕ → Bool
     higher = reversed lower
 
@@ -271,38 +275,61 @@ module _ (lower : ℕ → ℕ → Bool) (o : StrictTotal lower) where
         ∙ sym (to-front higher (reversed-strict o) p k (place u q) m)
 
     -- and there it is whether both sides of the cell are above p
-    ne-above : lower p (p - (columns - 1)) ≡ true → not (falls (p - columns)) ≡ lower p (p - columns) && lower p (p + 1)
-    ne-above h =
+    ne-above : columns ≤ p → lower p (p - (columns - 1)) ≡ true → not (throughLowest lower columns (p - columns)) ≡ lower p (p - columns) && lower p (p + 1)
+    ne-above far h =
         let e : p - columns + columns ≡ p = omega arith in
         let q : p - columns + 1 ≡ p - (columns - 1) = omega arith in
         rw e at (from-sw columns (p - columns) wide (rw (e, q) h))
 
-    se-above : lower p (p + (columns + 1)) ≡ true → falls p ≡ lower p (p + columns) && lower p (p + 1)
+    se-above : lower p (p + (columns + 1)) ≡ true → throughLowest lower columns p ≡ lower p (p + 1) && lower p (p + columns)
     se-above h =
         let q : p + columns + 1 ≡ p + (columns + 1) = omega arith in
         from-nw columns p wide (rw q h)
 
-    sw-above : lower p (p + (columns - 1)) ≡ true → not (falls (p - 1)) ≡ lower p (p + columns) && lower p (p - 1)
-    sw-above h =
+    sw-above : 1 ≤ p → lower p (p + (columns - 1)) ≡ true → not (throughLowest lower columns (p - 1)) ≡ lower p (p + columns) && lower p (p - 1)
+    sw-above far h =
         let e : p - 1 + 1 ≡ p = omega arith in
         let q : p - 1 + columns ≡ p + (columns - 1) = omega arith in
         let s : p + (columns - 1) + 1 ≡ p + columns = omega arith in
         rw (e, q, s) at (from-ne columns (p - 1) wide (rw (e, q) h))
 
-    nw-above : lower p (p - (columns + 1)) ≡ true → falls (p - columns - 1) ≡ lower p (p - columns) && lower p (p - 1)
-    nw-above h =
+    nw-above : columns + 1 ≤ p → lower p (p - (columns + 1)) ≡ true → throughLowest lower columns (p - columns - 1) ≡ lower p (p - 1) && lower p (p - columns)
+    nw-above far h =
         let e : p - columns - 1 + columns + 1 ≡ p = omega arith in
         let q : p - columns - 1 ≡ p - (columns + 1) = omega arith in
         let n : p - columns - 1 + 1 ≡ p - columns = omega arith in
         let w : p - columns - 1 + columns ≡ p - 1 = omega arith in
         rw (e, n, w) at (from-se columns (p - columns - 1) wide (rw (e, q) h))
 
-    pub corners-above : scan higher p (turn columns p inside joinedCorners) ≡ scan higher p (turn columns p inside (cornersAbove lower columns p))
-    corners-above =
-        same-flag (p - (columns - 1)) _ _ (place true (p - columns) ∷ []) _ ne-above
-        ∙ same-flag (p + (columns + 1)) _ _ (place true (p - columns) ∷ place _ (p - (columns - 1)) ∷ place true (p + 1) ∷ []) _ se-above
-        ∙ same-flag (p + (columns - 1)) _ _ (place true (p - columns) ∷ place _ (p - (columns - 1)) ∷ place true (p + 1) ∷ place _ (p + (columns + 1)) ∷ place true (p + columns) ∷ []) _ sw-above
-        ∙ same-flag (p - (columns + 1)) _ _ (place true (p - columns) ∷ place _ (p - (columns - 1)) ∷ place true (p + 1) ∷ place _ (p + (columns + 1)) ∷ place true (p + columns) ∷ place _ (p + (columns - 1)) ∷ place true (p - 1) ∷ []) _ nw-above
+    module _ (at : Borders) (north : at .top ≡ false → columns ≤ p) (west : at .first ≡ false → 1 ≤ p) (northWest : at .first ≡ false → at .top ≡ false → columns + 1 ≤ p) where
+      abbrev n : Place
+      n = place (not (at .top)) (p - columns)
+
+      abbrev e : Place
+      e = place (not (at .last)) (p + 1)
+
+      abbrev s : Place
+      s = place (not (at .bottom)) (p + columns)
+
+      abbrev w : Place
+      w = place (not (at .first)) (p - 1)
+
+      flagged : (a b t u : Bool) → (a ≡ false → b ≡ false → t ≡ u) → not a && (not b && t) ≡ not a && (not b && u)
+      flagged true b t u h = refl
+      flagged false true t u h = refl
+      flagged false false t u h = h refl refl
+
+      pub corners-above : (falls : ℕ → Bool) → falls ≡ throughLowest lower columns
+          → scan higher p (turn columns p at (record { ne = not (at .top) && (not (at .last) && not (falls (p - columns))); se = not (at .last) && (not (at .bottom) && falls p); sw = not (at .bottom) && (not (at .first) && not (falls (p - 1))); nw = not (at .first) && (not (at .top) && falls (p - columns - 1)) }))
+          ≡ scan higher p (turn columns p at (cornersAbove lower columns p at))
+      corners-above falls f =
+          rw f
+          (same-flag (p - (columns - 1)) _ _ (n ∷ []) _ (λ h. flagged (at .top) (at .last) _ _ (λ i _. ne-above (north i) h))
+          ∙ same-flag (p + (columns + 1)) _ _ (n ∷ place _ (p - (columns - 1)) ∷ e ∷ []) _ (λ h. flagged (at .last) (at .bottom) _ _ (λ _ _. se-above h))
+          ∙ same-flag (p + (columns - 1)) _ _ (n ∷ place _ (p - (columns - 1)) ∷ e ∷ place _ (p + (columns + 1)) ∷ s ∷ []) _
+          (λ h. flagged (at .bottom) (at .first) _ _ (λ _ j. sw-above (west j) h))
+          ∙ same-flag (p - (columns + 1)) _ _ (n ∷ place _ (p - (columns - 1)) ∷ e ∷ place _ (p + (columns + 1)) ∷ s ∷ place _ (p + (columns - 1)) ∷ w ∷ []) _
+          (λ h. flagged (at .first) (at .top) _ _ (λ i j. nw-above (northWest i j) h)))
 
 -- a post on no border
 module _ {rows columns : ℕ} {hs : List ℤ} (fits : Fits rows columns hs) (p : ℕ) (post : p < rows * columns) (border : isBorder rows columns p ≡ false) where
@@ -312,26 +339,45 @@ module _ {rows columns : ℕ} {hs : List ℤ} (fits : Fits rows columns hs) (p :
   stands : Inside rows columns hs p (falling-round (p - columns - 1)) (falling-round (p - columns)) (falling-round (p - 1)) (falling-round p)
   stands = record { fits = fits; post = post; border = border; nwFalls = refl; neFalls = refl; swFalls = refl; seFalls = refl }
 
-  pub room-block : Room (length hs) columns p inside everyCorner
-  room-block =
-      let n = inside-bounds stands in
-      record {
-        post = omega (arith, n .1);
-        small = omega (arith, fits .size, few fits);
-        wide = fits .columnsLow;
-        narrow = fits .columnsHigh;
-        north = λ _. omega (arith, n .0);
-        northEast = λ _. omega (arith, n .0);
-        east = λ _. omega (arith, n .1);
-        southEast = λ _. n .1;
-        south = λ _. omega (arith, n .1);
-        southWest = λ _. omega (arith, n .1);
-        west = λ _. omega (arith, n .0);
-        northWest = λ _. n .0;
-      }
-
   pub down-block : nextBy false rows columns hs p ≡ scan (toward hs false) p (turn columns p inside everyCorner)
   down-block = next-is stands false ∙ every-corner (below hs) (below-strict hs) columns p (fits .columnsLow) (inside-bounds stands .0)
 
-  pub up-block : nextBy true rows columns hs p ≡ scan (toward hs true) p (turn columns p inside (cornersAbove (below hs) columns p))
-  up-block = next-is stands true ∙ corners-above (below hs) (below-strict hs) columns p (fits .columnsLow) (inside-bounds stands .0)
+  pub inside-at : bordersOf rows columns p ≡ inside
+  inside-at = borders-are stands
+
+-- any post
+module _ {rows columns : ℕ} {hs : List ℤ} (fits : Fits rows columns hs) (p : ℕ) (post : p < rows * columns) where
+  abbrev at : Borders
+  at = bordersOf rows columns p
+
+  both : (a b : Bool) → not a && not b ≡ true → (a ≡ false) × (b ≡ false)
+  both true b h = absurd (true≢false (sym h))
+  both false true h = absurd (true≢false (sym h))
+  both false false h = (refl, refl)
+
+  -- the posts of the cells that are there
+  pub room-cells : Room (length hs) columns p at (cells at)
+  room-cells =
+      let r = room fits p post (throughLowest (below hs) columns) in
+      record {
+        post = r .post;
+        small = r .small;
+        wide = r .wide;
+        narrow = r .narrow;
+        north = r .north;
+        northEast = λ k. north fits p post (both (at .top) (at .last) k .0);
+        east = r .east;
+        southEast = λ k. let b = both (at .last) (at .bottom) k in omega (arith, fits .size, southEast fits p post (b .0) (b .1));
+        south = r .south;
+        southWest = λ k. omega (arith, fits .size, south fits p post (both (at .bottom) (at .first) k .0));
+        west = r .west;
+        northWest = λ k. let b = both (at .first) (at .top) k in northWest fits p post (b .0) (b .1);
+      }
+
+  pub up-block : nextBy true rows columns hs p ≡ scan (toward hs true) p (turn columns p at (cornersAbove (below hs) columns p at))
+  up-block =
+      up-is fits p post
+      ∙ corners-above (below hs) (below-strict hs) columns p (fits .columnsLow) at (north fits p post) (λ f. room-cells .west (ap not f)) (northWest fits p post) (throughLowest (below hs) columns) refl
+
+  pub room-inside : isBorder rows columns p ≡ false → Room (length hs) columns p inside (cells inside)
+  room-inside border = subst (λ (b : Borders). Room (length hs) columns p b (cells b)) (inside-at fits p post border) room-cells

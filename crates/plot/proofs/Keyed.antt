@@ -9,7 +9,7 @@ use lib.IntN.{ℤ, pos, negsuc, _+ℤ_}
 use lib.Signed.{ltZ}
 use borrow.Author.Tests.{ltb-true, ltb-false, lt-ltb, le-ltb, not-true}
 use Rattle.surface.specs.Plot.{isHeight, height, virtualPit, below}
-use Rattle.surface.specs.Edges.{lowestOr, Place, isBorder, throughLowest}
+use Rattle.surface.specs.Edges.{lowestOr, Place, isBorder}
 use Rattle.surface.proofs.Bools.{either, and-left}
 use Rattle.surface.proofs.Order.{below-lex}
 use Rattle.plot.specs.declared.border.Borders.{Borders}
@@ -17,12 +17,12 @@ use Rattle.plot.specs.declared.sign.Corners.{Corners}
 use Rattle.plot.specs.declared.key.Block.{Block}
 use Rattle.plot.specs.Fits.{InRange, Levelled}
 use Rattle.plot.specs.Borders.{bordersOf}
-use Rattle.plot.specs.Signs.{cornersOf, inside}
+use Rattle.plot.specs.Signs.{inside}
 use Rattle.plot.specs.Scan.{toward, nextBy, scan, turn, everyCorner, cornersAbove}
-use Rattle.plot.specs.Keys.{raised, keyOf, Near, blockOf, cornersKept, around, order}
+use Rattle.plot.specs.Keys.{raised, keyOf, Near, Small, blockOf, cornersKept, around, order}
 use Rattle.plot.proofs.Round.{few}
-use Rattle.plot.proofs.Extreme.{toward-strict, up-is}
-use Rattle.plot.proofs.Block.{down-block, up-block}
+use Rattle.plot.proofs.Extreme.{toward-strict}
+use Rattle.plot.proofs.Block.{down-block, up-block, inside-at}
 
 -- heights in range, counted from the lowest
 high : (n : ℕ) → isHeight (pos n) ≡ true → n ≤ 1000000
@@ -40,6 +40,14 @@ pub raised-sum : (z : ℤ) → isHeight z ≡ true → z +ℤ pos 1000000 ≡ po
 unfolding raised
 raised-sum (pos n) h = refl
 raised-sum (negsuc n) h = rw (le-ltb 1000000 (suc n) (omega (arith, low n h))) (ap pos (omega arith))
+
+pub small-cond : (g : Bool) (x y : ℕ) → Small x → Small y → Small (cond g x y)
+small-cond true x y h k = h
+small-cond false x y h k = k
+
+level : (g : Bool) (k : ℕ) → cond g k k ≡ k
+level true k = refl
+level false k = refl
 
 both : (a b c d : ℕ) → ((a < b) → c < d) → ((b ≤ a) → d ≤ c) → ltb c d ≡ ltb a b
 both a b c d f g = either (ltb a b) (λ e. lt-ltb c d (f (ltb-true a b e)) ∙ sym e) (λ e. le-ltb c d (g (ltb-false a b e)) ∙ sym e)
@@ -140,24 +148,37 @@ module _ (hs : List ℤ) (columns p : ℕ) where
         let w = found up p l (omega arith, omega arith) (toward-strict hs up .irrefl p) a in
         tells k q (e ∙ w .0 ∙ ap key (sym f)) (rw f (w .1))
 
-    -- the block with its corners kept is that of the corners above p
-    pull : (g : Bool) (a b : ℕ) → cond g (key a) (key b) ≡ key (cond g a b)
-    pull true a b = refl
-    pull false a b = refl
+    -- a corner that is kept where both sides x and y are above p; a and b: a border on which x, or y, is not there
+    kept : (a b : Bool) (x y q : ℕ) → Near columns p x → Near columns p y
+        → cond (ltb (key p) (key (cond (not a) x p)) && ltb (key p) (key (cond (not b) y p))) (key (cond (not a && not b) q p)) (key p)
+        ≡ key (cond (not a && (not b && (below hs p x && below hs p y))) q p)
+    kept true b x y q n m = level (ltb (key p) (key p) && ltb (key p) (key (cond (not b) y p))) (key p)
+    kept false true x y q n m = level (ltb (key p) (key x) && ltb (key p) (key p)) (key p)
+    kept false false x y q n m =
+        rw (key-below p x (omega arith, omega arith) n, key-below p y (omega arith, omega arith) m) (pull (below hs p x && below hs p y))
+      where
+        pull : (g : Bool) → cond g (key q) (key p) ≡ key (cond g q p)
+        pull true = refl
+        pull false = refl
 
-    kept-keys : around (cornersKept (blockOf key columns p inside everyCorner)) ≡ keys (turn columns p inside (cornersAbove (below hs) columns p))
+    -- the block with its corners kept is that of the corners above p
+    kept-keys : (at : Borders) → around (cornersKept (blockOf key columns p at)) ≡ keys (turn columns p at (cornersAbove (below hs) columns p at))
     unfolding keys
-    kept-keys =
-        let k : (q : ℕ) → Near columns p q → ltb (key p) (key q) ≡ below hs p q = λ q n. key-below p q (omega arith, omega arith) n in
-        let n = k (p - columns) (omega arith, omega arith) in
-        let e = k (p + 1) (omega arith, omega arith) in
-        let s = k (p + columns) (omega arith, omega arith) in
-        let w = k (p - 1) (omega arith, omega arith) in
-        rw (n, e, s, w, pull _ (p - (columns - 1)) p, pull _ (p + (columns + 1)) p, pull _ (p + (columns - 1)) p, pull _ (p - (columns + 1)) p)
+    kept-keys at =
+        let n : Near columns p (p - columns) = omega arith in
+        let e : Near columns p (p + 1) = omega arith in
+        let s : Near columns p (p + columns) = omega arith in
+        let w : Near columns p (p - 1) = omega arith in
+        rw (
+          kept (at .top) (at .last) (p - columns) (p + 1) (p - (columns - 1)) n e,
+          kept (at .last) (at .bottom) (p + 1) (p + columns) (p + (columns + 1)) e s,
+          kept (at .bottom) (at .first) (p + columns) (p - 1) (p + (columns - 1)) s w,
+          kept (at .first) (at .top) (p - 1) (p - columns) (p - (columns + 1)) w n,
+        )
 
 -- next down and next up, by the lowest and the highest key
 module _ {rows columns : ℕ} {hs : List ℤ} (l : Levelled rows columns hs) (p : ℕ) (post : p < rows * columns) where
-  abbrev block : Borders → Corners → Block
+  abbrev block : Borders → Block
   block = blockOf (keyOf hs columns p) columns p
 
   small : p < 14400
@@ -167,19 +188,18 @@ module _ {rows columns : ℕ} {hs : List ℤ} (l : Levelled rows columns hs) (p 
       → nextBy up rows columns hs p ≡ scan (toward hs up) p (turn columns p at with) → Tells hs columns p k (nextBy up rows columns hs p)
   told up k at with e f = found-told hs columns p (l .inRange) (l .fits .columnsHigh) small up k _ _ (turn-near columns p at with) e f
 
-  pub border-told : (k : ℕ)
-      → k ≡ lowestOr (order true) (keyOf hs columns p p) (around (block (bordersOf rows columns p) (cornersOf rows columns (throughLowest (below hs) columns) p)))
+  pub up-told : (k : ℕ) → k ≡ lowestOr (order true) (keyOf hs columns p p) (around (cornersKept (block (bordersOf rows columns p)))) → Tells hs columns p k (nextBy true rows columns hs p)
+  up-told k e =
+      let at = bordersOf rows columns p in
+      told true k at (cornersAbove (below hs) columns p at)
+      (e ∙ ap (lowestOr (order true) (keyOf hs columns p p)) (kept-keys hs columns p (l .inRange) (l .fits .columnsHigh) small at))
+      (up-block (l .fits) p post)
+
+  pub up-inside-told : isBorder rows columns p ≡ false → (k : ℕ) → k ≡ lowestOr (order true) (keyOf hs columns p p) (around (cornersKept (block inside)))
       → Tells hs columns p k (nextBy true rows columns hs p)
+  up-inside-told border k e =
+      up-told k (e ∙ ap (λ (at : Borders). lowestOr (order true) (keyOf hs columns p p) (around (cornersKept (block at)))) (sym (inside-at (l .fits) p post border)))
+
+  pub down-told : isBorder rows columns p ≡ false → (k : ℕ) → k ≡ lowestOr (order false) (keyOf hs columns p p) (around (block inside)) → Tells hs columns p k (nextBy false rows columns hs p)
   unfolding keys
-  border-told k e = told true k (bordersOf rows columns p) (cornersOf rows columns (throughLowest (below hs) columns) p) e (up-is (l .fits) p post)
-
-  module _ (border : isBorder rows columns p ≡ false) where
-    pub down-told : (k : ℕ) → k ≡ lowestOr (order false) (keyOf hs columns p p) (around (block inside everyCorner)) → Tells hs columns p k (nextBy false rows columns hs p)
-    unfolding keys
-    down-told k e = told false k inside everyCorner e (down-block (l .fits) p post border)
-
-    pub up-told : (k : ℕ) → k ≡ lowestOr (order true) (keyOf hs columns p p) (around (cornersKept (block inside everyCorner))) → Tells hs columns p k (nextBy true rows columns hs p)
-    up-told k e =
-        told true k inside (cornersAbove (below hs) columns p)
-        (e ∙ ap (lowestOr (order true) (keyOf hs columns p p)) (kept-keys hs columns p (l .inRange) (l .fits .columnsHigh) small))
-        (up-block (l .fits) p post border)
+  down-told border k e = told false k inside everyCorner e (down-block (l .fits) p post border)

@@ -1,14 +1,14 @@
 -- Keys: the height of a post q and its place in the block of nine round p, in one number. In a plot of at most 120 columns a place is below 256, so
 -- comparing keys is comparing posts in the height order.
-use Prim.Native.Nat.{ℕ, _+_, _-_, _*_, _≤_}
+use Prim.Native.Nat.{ℕ, _+_, _-_, _*_, _≤_, _<_}
 use mathlib.Core.Bool.{Bool, cond, not, _&&_}
 use mathlib.Core.List.{List, [], _∷_}
 use lib.Dec.{ltb}
 use lib.IntN.{ℤ, pos, negsuc}
 use Rattle.surface.specs.Plot.{height}
 use Rattle.plot.specs.declared.border.Borders.{Borders}
-use Rattle.plot.specs.declared.sign.Corners.{Corners}
 use Rattle.plot.specs.declared.key.Block.{Block}
+use Rattle.plot.specs.Signs.{cells}
 
 -- a height counted from the lowest there may be
 unfoldable pub raised : ℤ → ℕ
@@ -22,20 +22,35 @@ keyOf hs columns p q = raised (height hs q) * 256 + (q + columns + 1 - p)
 abbrev pub Near : ℕ → ℕ → ℕ → Type 0
 Near columns p q = (p ≤ q + columns + 1) × (q ≤ p + columns + 1)
 
--- the keys of p and of the posts round it; where there is no neighbour, p's own
-abbrev pub blockOf : (ℕ → ℕ) → ℕ → ℕ → Borders → Corners → Block
-blockOf key columns p at with =
+-- a key fits 31 bits, so that it may be compared as a signed number
+abbrev pub Small : ℕ → Type 0
+Small k = k < 2147483648
+
+-- the keys of p and of the posts round it; where there is no post, p's own
+abbrev pub blockOf : (ℕ → ℕ) → ℕ → ℕ → Borders → Block
+blockOf key columns p at =
     record {
       post = key p;
       n = key (cond (not (at .top)) (p - columns) p);
-      ne = key (cond (with .ne) (p - (columns - 1)) p);
+      ne = key (cond (cells at .ne) (p - (columns - 1)) p);
       e = key (cond (not (at .last)) (p + 1) p);
-      se = key (cond (with .se) (p + (columns + 1)) p);
+      se = key (cond (cells at .se) (p + (columns + 1)) p);
       s = key (cond (not (at .bottom)) (p + columns) p);
-      sw = key (cond (with .sw) (p + (columns - 1)) p);
+      sw = key (cond (cells at .sw) (p + (columns - 1)) p);
       w = key (cond (not (at .first)) (p - 1) p);
-      nw = key (cond (with .nw) (p - (columns + 1)) p);
+      nw = key (cond (cells at .nw) (p - (columns + 1)) p);
     }
+
+pub record SmallBlock (b : Block) : Type 0 where
+  pub post : Small (b .post)
+  pub n : Small (b .n)
+  pub ne : Small (b .ne)
+  pub e : Small (b .e)
+  pub se : Small (b .se)
+  pub s : Small (b .s)
+  pub sw : Small (b .sw)
+  pub w : Small (b .w)
+  pub nw : Small (b .nw)
 
 -- a block with those corners only that have both sides of their cell above the post
 abbrev pub cornersKept : Block → Block
@@ -49,11 +64,11 @@ cornersKept b =
       n = b .n;
       ne = cond (n && e) (b .ne) (b .post);
       e = b .e;
-      se = cond (s && e) (b .se) (b .post);
+      se = cond (e && s) (b .se) (b .post);
       s = b .s;
       sw = cond (s && w) (b .sw) (b .post);
       w = b .w;
-      nw = cond (n && w) (b .nw) (b .post);
+      nw = cond (w && n) (b .nw) (b .post);
     }
 
 abbrev pub around : Block → List ℕ

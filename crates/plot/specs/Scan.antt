@@ -46,11 +46,16 @@ turn columns p at with =
 abbrev pub everyCorner : Corners
 everyCorner = record { ne = true; se = true; sw = true; nw = true }
 
--- joined to a corner where both sides of their cell are above p
-abbrev pub cornersAbove : (ℕ → ℕ → Bool) → ℕ → ℕ → Corners
-cornersAbove lower columns p =
+-- joined to a corner where their cell is there and both its sides are above p
+abbrev pub cornersAbove : (ℕ → ℕ → Bool) → ℕ → ℕ → Borders → Corners
+cornersAbove lower columns p at =
     let n = lower p (p - columns) in
     let e = lower p (p + 1) in
     let s = lower p (p + columns) in
     let w = lower p (p - 1) in
-    record { ne = n && e; se = s && e; sw = s && w; nw = n && w }
+    record {
+      ne = not (at .top) && (not (at .last) && (n && e));
+      se = not (at .last) && (not (at .bottom) && (e && s));
+      sw = not (at .bottom) && (not (at .first) && (s && w));
+      nw = not (at .first) && (not (at .top) && (w && n));
+    }

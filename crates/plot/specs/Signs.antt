@@ -30,6 +30,16 @@ cornersOf rows columns falls p =
       nw = not f && (not t && falls (p - columns - 1));
     }
 
+-- the corners whose cell is there
+abbrev pub cells : Borders → Corners
+cells at =
+    record {
+      ne = not (at .top) && not (at .last);
+      se = not (at .last) && not (at .bottom);
+      sw = not (at .bottom) && not (at .first);
+      nw = not (at .first) && not (at .top);
+    }
+
 -- the signs of p, where `low` tells of a post whether it is below p: on a border the virtual pit, which is, stands in for the post beyond; it does so
 -- once, so that in the top left corner W has the sign of SW
 unfoldable pub signsOf : (ℕ → Bool) → ℕ → ℕ → Borders → Corners → Signs

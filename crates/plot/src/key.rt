@@ -1,17 +1,17 @@
 // The posts round a post as keys: a post's height and its place in the block of nine, in one number, so that one comparison settles a tie too.
 use crate::border::Borders;
 use crate::side;
-use crate::sign::Corners;
 ghost use mathlib.Core.Path.{_≡_};
 ghost use mathlib.Core.Bool.{true, cond};
 ghost use Prim.Native.Nat.{_+_, _-_, _≤_, _<_, _%_};
+ghost use lib.Dec.{ltb};
 ghost use lib.ListN.{length};
 ghost use Rattle.surface.specs.Plot.{isHeight};
 ghost use Rattle.surface.specs.Edges.{lowestOr};
 ghost use Rattle.plot.specs.Fits.{InRange};
-ghost use Rattle.plot.specs.Signs.{Room};
+ghost use Rattle.plot.specs.Signs.{inside, cells, Room};
 ghost use Rattle.plot.specs.Scan.{lowerOf};
-ghost use Rattle.plot.specs.Keys.{raised, keyOf, Near, blockOf, cornersKept, around, order};
+ghost use Rattle.plot.specs.Keys.{raised, keyOf, Near, Small, SmallBlock, blockOf, cornersKept, around, order};
 
 // The keys of a post and of the eight round it. Where there is no neighbour it is the post's own, which is never chosen before another.
 pub struct Block {
@@ -37,7 +37,7 @@ pub fn raise(h: i32) -> u32
 // The key of q among the posts round p.
 pub fn key_of(heights: &[i32], columns: usize, p: usize, q: usize) -> u32
     requires { ⌜ InRange (now heights) × (q < length (now heights)) × (length (now heights) ≤ 14400) × (columns ≤ 120) × Near columns p q ⌝ }
-    ensures { λ r. ⌜ r ≡ keyOf (now (heights .entry)) columns p q ⌝ }
+    ensures { λ r. ⌜ (r ≡ keyOf (now (heights .entry)) columns p q) × Small r ⌝ }
 {
     raise(heights[q]) * 256 + (q + columns + 1 - p) as u32
 }
@@ -45,7 +45,7 @@ pub fn key_of(heights: &[i32], columns: usize, p: usize, q: usize) -> u32
 // The key of the post d numbers before p, or p's own where it is not there.
 pub fn key_back(heights: &[i32], columns: usize, p: usize, d: usize, there: bool) -> u32
     requires { ⌜ InRange (now heights) × (p < length (now heights)) × (length (now heights) ≤ 14400) × (columns ≤ 120) × (d ≤ columns + 1) × (there ≡ true → d ≤ p) ⌝ }
-    ensures { λ r. ⌜ r ≡ keyOf (now (heights .entry)) columns p (cond there (p - d) p) ⌝ }
+    ensures { λ r. ⌜ (r ≡ keyOf (now (heights .entry)) columns p (cond there (p - d) p)) × Small r ⌝ }
 {
     key_of(heights, columns, p, p - side::choose(there, d, 0))
 }
@@ -53,59 +53,89 @@ pub fn key_back(heights: &[i32], columns: usize, p: usize, d: usize, there: bool
 // The same of the post d numbers after p.
 pub fn key_ahead(heights: &[i32], columns: usize, p: usize, d: usize, there: bool) -> u32
     requires { ⌜ InRange (now heights) × (p < length (now heights)) × (length (now heights) ≤ 14400) × (columns ≤ 120) × (d ≤ columns + 1) × (there ≡ true → p + d < length (now heights)) ⌝ }
-    ensures { λ r. ⌜ r ≡ keyOf (now (heights .entry)) columns p (cond there (p + d) p) ⌝ }
+    ensures { λ r. ⌜ (r ≡ keyOf (now (heights .entry)) columns p (cond there (p + d) p)) × Small r ⌝ }
 {
     key_of(heights, columns, p, p + side::choose(there, d, 0))
 }
 
-// The keys round p, which stands at these borders and is joined to these corners.
-pub fn block_at(heights: &[i32], columns: usize, p: usize, at: Borders, with: Corners) -> Block
-    requires { ⌜ InRange (now heights) × Room (length (now heights)) columns p at with ⌝ }
-    ensures { λ r. ⌜ r ≡ blockOf (keyOf (now (heights .entry)) columns p) columns p at with ⌝ }
+// The keys round p, which stands at these borders.
+pub fn block_at(heights: &[i32], columns: usize, p: usize, at: Borders) -> Block
+    requires { ⌜ InRange (now heights) × Room (length (now heights)) columns p at (cells at) ⌝ }
+    ensures { λ r. ⌜ (r ≡ blockOf (keyOf (now (heights .entry)) columns p) columns p at) × SmallBlock r ⌝ }
 {
     Block {
         post: key_of(heights, columns, p, p),
         n: key_back(heights, columns, p, columns, !at.top),
-        ne: key_back(heights, columns, p, columns - 1, with.ne),
+        ne: key_back(heights, columns, p, columns - 1, !at.top & !at.last),
         e: key_ahead(heights, columns, p, 1, !at.last),
-        se: key_ahead(heights, columns, p, columns + 1, with.se),
+        se: key_ahead(heights, columns, p, columns + 1, !at.last & !at.bottom),
         s: key_ahead(heights, columns, p, columns, !at.bottom),
-        sw: key_ahead(heights, columns, p, columns - 1, with.sw),
+        sw: key_ahead(heights, columns, p, columns - 1, !at.bottom & !at.first),
         w: key_back(heights, columns, p, 1, !at.first),
-        nw: key_back(heights, columns, p, columns + 1, with.nw),
+        nw: key_back(heights, columns, p, columns + 1, !at.first & !at.top),
     }
+}
+
+// The keys round p, which stands on no border: nothing to choose, so that a walk, which waits for each key, is the quicker.
+pub fn block_inside(heights: &[i32], columns: usize, p: usize) -> Block
+    requires { ⌜ InRange (now heights) × Room (length (now heights)) columns p inside (cells inside) ⌝ }
+    ensures { λ r. ⌜ (r ≡ blockOf (keyOf (now (heights .entry)) columns p) columns p inside) × SmallBlock r ⌝ }
+{
+    Block {
+        post: key_of(heights, columns, p, p),
+        n: key_of(heights, columns, p, p - columns),
+        ne: key_of(heights, columns, p, p - (columns - 1)),
+        e: key_of(heights, columns, p, p + 1),
+        se: key_of(heights, columns, p, p + (columns + 1)),
+        s: key_of(heights, columns, p, p + columns),
+        sw: key_of(heights, columns, p, p + (columns - 1)),
+        w: key_of(heights, columns, p, p - 1),
+        nw: key_of(heights, columns, p, p - (columns + 1)),
+    }
+}
+
+// x is less than y. As signed numbers, which vector code compares in one step.
+pub fn is_less(x: u32, y: u32) -> bool
+    requires { ⌜ Small x × Small y ⌝ }
+    ensures { λ r. ⌜ r ≡ ltb x y ⌝ }
+{
+    (x as i32) < (y as i32)
 }
 
 // The block with those corners only that have both sides of their cell above the post.
 pub fn keep_corners(b: Block) -> Block
-    ensures { λ r. ⌜ r ≡ cornersKept b ⌝ }
+    requires { ⌜ SmallBlock b ⌝ }
+    ensures { λ r. ⌜ (r ≡ cornersKept b) × SmallBlock r ⌝ }
 {
-    let n = b.post < b.n;
-    let e = b.post < b.e;
-    let s = b.post < b.s;
-    let w = b.post < b.w;
+    let n = is_less(b.post, b.n);
+    let e = is_less(b.post, b.e);
+    let s = is_less(b.post, b.s);
+    let w = is_less(b.post, b.w);
     Block {
         post: b.post,
         n: b.n,
         ne: side::choose_key(n & e, b.ne, b.post),
         e: b.e,
-        se: side::choose_key(s & e, b.se, b.post),
+        se: side::choose_key(e & s, b.se, b.post),
         s: b.s,
         sw: side::choose_key(s & w, b.sw, b.post),
         w: b.w,
-        nw: side::choose_key(n & w, b.nw, b.post),
+        nw: side::choose_key(w & n, b.nw, b.post),
     }
 }
 
 // The lower of two keys, the higher where `up`.
 pub fn lower_of(up: bool, x: u32, y: u32) -> u32
-    ensures { λ r. ⌜ r ≡ lowerOf (order up) x y ⌝ }
+    requires { ⌜ Small x × Small y ⌝ }
+    ensures { λ r. ⌜ (r ≡ lowerOf (order up) x y) × Small r ⌝ }
 {
-    side::choose_key(side::pick(up, x < y, y < x), y, x)
+    let take = side::pick(up, is_less(x, y), is_less(y, x));
+    side::choose_key(take, y, x)
 }
 
 // The lowest key of a block, the highest where `up`.
 pub fn lowest_in(up: bool, b: Block) -> u32
+    requires { ⌜ SmallBlock b ⌝ }
     ensures { λ r. ⌜ r ≡ lowestOr (order up) (b .post) (around b) ⌝ }
 {
     let n = lower_of(up, b.post, b.n);

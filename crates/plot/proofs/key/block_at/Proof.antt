@@ -8,54 +8,54 @@ key-of-requires : tie.Need-key-of-requires
 key-of-requires c κs = search needs
 
 key-back-requires : tie.Need-key-back-requires
-key-back-requires c κs = search needs
+key-back-requires c κs = let start = c .before .before in
+    (start .pre .0, omega arith, omega arith, omega arith, omega (arith, start .pre .1 .wide), λ h. omega (arith, start .pre .1 .north h))
 
 sub-key-back : tie.Need-sub-key-back
 sub-key-back c = search needs
 
 key-back-requires-2 : tie.Need-key-back-requires-2
-key-back-requires-2 c κs =
-    let start = c .before .before .before in
+key-back-requires-2 c κs = let start = c .before .before .before .before .before in
     (start .pre .0, omega arith, omega arith, omega arith, omega (arith, start .pre .1 .wide), λ h. omega (arith, start .pre .1 .northEast h))
 
 key-ahead-requires : tie.Need-key-ahead-requires
-key-ahead-requires c κs = search needs
+key-ahead-requires c κs = let start = c .before .before .before .before .before .before .before in
+    (start .pre .0, omega arith, omega arith, omega arith, omega (arith, start .pre .1 .wide), λ h. omega (arith, start .pre .1 .east h))
 
 add-key-ahead : tie.Need-add-key-ahead
-add-key-ahead c = search needs
+add-key-ahead c = omega (arith, c .before .before .before .before .before .before .before .before .pre .1 .narrow)
 
 key-ahead-requires-2 : tie.Need-key-ahead-requires-2
-key-ahead-requires-2 c κs =
-    let start = c .before .before .before .before .before .before in
+key-ahead-requires-2 c κs = let start = c .before .before .before .before .before .before .before .before .before .before in
     (start .pre .0, omega arith, omega arith, omega arith, omega (arith, start .pre .1 .wide), λ h. omega (arith, start .pre .1 .southEast h))
 
 key-ahead-requires-3 : tie.Need-key-ahead-requires-3
-key-ahead-requires-3 c κs = search needs
+key-ahead-requires-3 c κs = let start = c .before .before .before .before .before .before .before .before .before .before .before .before in
+    (start .pre .0, omega arith, omega arith, omega arith, omega (arith, start .pre .1 .wide), λ h. omega (arith, start .pre .1 .south h))
 
 sub-key-ahead : tie.Need-sub-key-ahead
-sub-key-ahead c = search needs
+sub-key-ahead c = omega (arith, c .before .before .before .before .before .before .before .before .before .before .before .before .before .pre .1 .wide)
 
 key-ahead-requires-4 : tie.Need-key-ahead-requires-4
-key-ahead-requires-4 c κs =
-    let start = c .before .before .before .before .before .before .before .before .before in
+key-ahead-requires-4 c κs = let start = c .before .before .before .before .before .before .before .before .before .before .before .before .before .before .before in
     (start .pre .0, omega arith, omega arith, omega arith, omega (arith, start .pre .1 .wide), λ h. omega (arith, start .pre .1 .southWest h))
 
 key-back-requires-3 : tie.Need-key-back-requires-3
-key-back-requires-3 c κs =
-    let start = c .before .before .before .before .before .before .before .before .before .before .before in
+key-back-requires-3 c κs = let start = c .before .before .before .before .before .before .before .before .before .before .before .before .before .before .before .before .before in
     (start .pre .0, omega arith, omega arith, omega arith, omega (arith, start .pre .1 .wide), λ h. omega (arith, start .pre .1 .west h))
 
 add-key-back : tie.Need-add-key-back
-add-key-back c = search needs
+add-key-back c = omega (arith, c .before .before .before .before .before .before .before .before .before .before .before .before .before .before .before .before .before .before .pre .1 .narrow)
 
 key-back-requires-4 : tie.Need-key-back-requires-4
-key-back-requires-4 c κs =
-    let start = c .before .before .before .before .before .before .before .before .before .before .before .before in
+key-back-requires-4 c κs = let start = c .before .before .before .before .before .before .before .before .before .before .before .before .before .before .before .before .before .before .before .before in
     (start .pre .0, omega arith, omega arith, omega arith, omega (arith, start .pre .1 .wide), λ h. omega (arith, start .pre .1 .northWest h))
 
 returns : tie.Need-returns
-returns c =
-    rw (c .key-back4 .ensures, c .before .key-back3 .ensures, c .before .before .before .key-ahead4 .ensures, c .before .before .before .before .key-ahead3 .ensures, c .before .before .before .before .before .before .key-ahead2 .ensures, c .before .before .before .before .before .before .before .key-ahead .ensures, c .before .before .before .before .before .before .before .before .before .key-back2 .ensures, c .before .before .before .before .before .before .before .before .before .before .key-back .ensures, c .before .before .before .before .before .before .before .before .before .before .before .before .key-of .ensures)
+returns c = (
+  rw (c .key-back4 .ensures .0, c .before .before .before .key-back3 .ensures .0, c .before .before .before .before .before .key-ahead4 .ensures .0, c .before .before .before .before .before .before .before .before .key-ahead3 .ensures .0, c .before .before .before .before .before .before .before .before .before .before .key-ahead2 .ensures .0, c .before .before .before .before .before .before .before .before .before .before .before .before .before .key-ahead .ensures .0, c .before .before .before .before .before .before .before .before .before .before .before .before .before .before .before .key-back2 .ensures .0, c .before .before .before .before .before .before .before .before .before .before .before .before .before .before .before .before .before .before .key-back .ensures .0, c .before .before .before .before .before .before .before .before .before .before .before .before .before .before .before .before .before .before .before .before .key-of .ensures .0),
+  record { post = c .before .before .before .before .before .before .before .before .before .before .before .before .before .before .before .before .before .before .before .before .key-of .ensures .1; n = c .before .before .before .before .before .before .before .before .before .before .before .before .before .before .before .before .before .before .key-back .ensures .1; ne = c .before .before .before .before .before .before .before .before .before .before .before .before .before .before .before .key-back2 .ensures .1; e = c .before .before .before .before .before .before .before .before .before .before .before .before .before .key-ahead .ensures .1; se = c .before .before .before .before .before .before .before .before .before .before .key-ahead2 .ensures .1; s = c .before .before .before .before .before .before .before .before .key-ahead3 .ensures .1; sw = c .before .before .before .before .before .key-ahead4 .ensures .1; w = c .before .before .before .key-back3 .ensures .1; nw = c .key-back4 .ensures .1 },
+)
 
 pub block-at-spec : {M : Type 1} → statement M
 block-at-spec =

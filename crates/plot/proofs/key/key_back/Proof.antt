@@ -1,7 +1,7 @@
 -- The post that is there, or p itself.
 use Prim.Native.Nat.{ℕ, _+_, _-_, _≤_}
 use native.Mathlib.Omega.{arith}
-use mathlib.Core.Path.{_≡_, refl, ap}
+use mathlib.Core.Path.{_≡_, refl, ap, _∙_}
 use mathlib.Core.Bool.{Bool, true, false, cond}
 use Rattle.plot.specs.Keys.{keyOf}
 use borrow.Author.Needs.{needs}
@@ -32,8 +32,8 @@ key-of-requires c κs =
 
 returns : tie.Need-returns
 returns c =
-    let start = c .before .before in
-    rw (c .key-of .ensures, c .before .choose .ensures) (ap (keyOf (start .args .heights .now) (start .args .columns) (start .args .p)) (shifted (start .args .there) (start .args .p) (start .args .d)))
+    let a = c .before .before .args in
+    (c .key-of .ensures .0 ∙ rw (c .before .choose .ensures) (ap (keyOf (a .heights .now) (a .columns) (a .p)) (shifted (a .there) (a .p) (a .d))), c .key-of .ensures .1)
 
 pub key-back-spec : {M : Type 1} → statement M
 key-back-spec = tie.close (tie.spec choose-requires sub-key-of key-of-requires returns)

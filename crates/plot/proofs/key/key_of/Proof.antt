@@ -1,4 +1,5 @@
 -- The height in range, and the place below 256.
+use native.Mathlib.Omega.{arith}
 use mathlib.Core.Path.{_≡_}
 use lib.IntN.{pos}
 use lib.ListN.{getD}
@@ -40,7 +41,7 @@ add-result-3 : tie.Need-add-result-3
 add-result-3 c = search needs
 
 returns : tie.Need-returns
-returns c = rw (rw (height-bits (c .before)) at (c .raise .ensures .0))
+returns c = (rw (rw (height-bits (c .before)) at (c .raise .ensures .0)), omega (arith, c .raise .ensures .1))
 
 pub key-of-spec : {M : Type 1} → statement M
 key-of-spec =

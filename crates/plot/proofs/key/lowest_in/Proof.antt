@@ -19,40 +19,40 @@ unfolding lowestOr
 lowest-step lower x y r z l h k = k ∙ ap (λ (w : ℕ). lowestOr lower w l) h
 
 lower-of-requires : tie.Need-lower-of-requires
-lower-of-requires c κs = search needs
+lower-of-requires c κs = let s = c in (s .pre .post, s .pre .n)
 
 lower-of-requires-2 : tie.Need-lower-of-requires-2
-lower-of-requires-2 c κs = search needs
+lower-of-requires-2 c κs = let s = c .before in (c .lower-of .ensures .1, s .pre .ne)
 
 lower-of-requires-3 : tie.Need-lower-of-requires-3
-lower-of-requires-3 c κs = search needs
+lower-of-requires-3 c κs = let s = c .before .before in (c .lower-of2 .ensures .1, s .pre .e)
 
 lower-of-requires-4 : tie.Need-lower-of-requires-4
-lower-of-requires-4 c κs = search needs
+lower-of-requires-4 c κs = let s = c .before .before .before in (c .lower-of3 .ensures .1, s .pre .se)
 
 lower-of-requires-5 : tie.Need-lower-of-requires-5
-lower-of-requires-5 c κs = search needs
+lower-of-requires-5 c κs = let s = c .before .before .before .before in (c .lower-of4 .ensures .1, s .pre .s)
 
 lower-of-requires-6 : tie.Need-lower-of-requires-6
-lower-of-requires-6 c κs = search needs
+lower-of-requires-6 c κs = let s = c .before .before .before .before .before in (c .lower-of5 .ensures .1, s .pre .sw)
 
 lower-of-requires-7 : tie.Need-lower-of-requires-7
-lower-of-requires-7 c κs = search needs
+lower-of-requires-7 c κs = let s = c .before .before .before .before .before .before in (c .lower-of6 .ensures .1, s .pre .w)
 
 lower-of-requires-8 : tie.Need-lower-of-requires-8
-lower-of-requires-8 c κs = search needs
+lower-of-requires-8 c κs = let s = c .before .before .before .before .before .before .before in (c .lower-of7 .ensures .1, s .pre .nw)
 
 returns : tie.Need-returns
 returns c =
     let lower = order (c .before .before .before .before .before .before .before .before .args .up) in
-    lowest-step lower _ _ _ _ _ (c .before .before .before .before .before .before .before .lower-of .ensures)
-    (lowest-step lower _ _ _ _ _ (c .before .before .before .before .before .before .lower-of2 .ensures)
-    (lowest-step lower _ _ _ _ _ (c .before .before .before .before .before .lower-of3 .ensures)
-    (lowest-step lower _ _ _ _ _ (c .before .before .before .before .lower-of4 .ensures)
-    (lowest-step lower _ _ _ _ _ (c .before .before .before .lower-of5 .ensures)
-    (lowest-step lower _ _ _ _ _ (c .before .before .lower-of6 .ensures)
-    (lowest-step lower _ _ _ _ _ (c .before .lower-of7 .ensures)
-    (lowest-step lower _ _ _ _ _ (c .lower-of8 .ensures)
+    lowest-step lower _ _ _ _ _ (c .before .before .before .before .before .before .before .lower-of .ensures .0)
+    (lowest-step lower _ _ _ _ _ (c .before .before .before .before .before .before .lower-of2 .ensures .0)
+    (lowest-step lower _ _ _ _ _ (c .before .before .before .before .before .lower-of3 .ensures .0)
+    (lowest-step lower _ _ _ _ _ (c .before .before .before .before .lower-of4 .ensures .0)
+    (lowest-step lower _ _ _ _ _ (c .before .before .before .lower-of5 .ensures .0)
+    (lowest-step lower _ _ _ _ _ (c .before .before .lower-of6 .ensures .0)
+    (lowest-step lower _ _ _ _ _ (c .before .lower-of7 .ensures .0)
+    (lowest-step lower _ _ _ _ _ (c .lower-of8 .ensures .0)
     (lowest-end lower _))))))))
 
 pub lowest-in-spec : {M : Type 1} → statement M

@@ -18,11 +18,11 @@ next-inside-requires c κs = let start = c .before .before in (start .pre .0, st
 returns : tie.Need-returns
 returns c = search needs
 
-next-up-on-border-requires : tie.Need-next-up-on-border-requires
-next-up-on-border-requires c κs = search needs
+next-up-anywhere-requires : tie.Need-next-up-anywhere-requires
+next-up-anywhere-requires c κs = search needs
 
 returns-2 : tie.Need-returns-2
-returns-2 c = rw (c .before .if2 .taken) (c .next-up-on-border .ensures)
+returns-2 c = rw (c .before .if2 .taken) (c .next-up-anywhere .ensures)
 
 returns-3 : tie.Need-returns-3
 unfolding virtualPit
@@ -38,6 +38,6 @@ next-at-spec =
     is-border-requires
     next-inside-requires
     returns
-    next-up-on-border-requires
+    next-up-anywhere-requires
     returns-2
     returns-3)
