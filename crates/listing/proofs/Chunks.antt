@@ -11,10 +11,10 @@ use lib.ListN.{length}
 use Rattle.surface.specs.Lists.{listOf}
 use Rattle.surface.specs.Marks.{ringOf, markAt}
 use Rattle.surface.specs.Lines.{thalweg, ridge, daleAt, hillAt, dalesOf, hillsOf}
-use Rattle.surface.specs.Lister.{joined, saddleLines, postLines}
+use Rattle.surface.specs.Lister.{concat, saddleLines, postLines}
 use Rattle.surface.proofs.Bools.{either}
 use Rattle.surface.proofs.ListOf.{listOf-ext}
-use Rattle.surface.proofs.Listing.{joined-more}
+use Rattle.surface.proofs.Listing.{concat-more}
 use Rattle.plot.specs.Rings.{Held}
 use Rattle.plot.specs.declared.ring.Ring.{Ring}
 use Rattle.lines.specs.Directed.{runsOf}
@@ -51,7 +51,7 @@ module _ (rows columns : ℕ) (hs : List ℤ) (p : ℕ) where
 
   -- posts one after the other
   from-none : linesFrom rows columns hs p p ≡ []
-  unfolding linesFrom listOf joined
+  unfolding linesFrom listOf concat
   from-none = let e : p - p ≡ 0 = omega arith in rw e
 
   from-more : (next : ℕ) → p ≤ next → linesFrom rows columns hs p (next + 1) ≡ linesFrom rows columns hs p next ++ postLines rows columns hs next
@@ -59,7 +59,7 @@ module _ (rows columns : ℕ) (hs : List ℤ) (p : ℕ) where
   from-more next h =
       let e : next + 1 - p ≡ (next - p) + 1 = omega arith in
       let f : p + (next - p) ≡ next = omega arith in
-      rw (e, joined-more (λ i. postLines rows columns hs (p + i)) (next - p), f)
+      rw (e, concat-more (λ i. postLines rows columns hs (p + i)) (next - p), f)
 
   -- the lines up to post `next` are written, in a list with room after place `last`
   pub record Going (l l₁ : List ℕ) (last next bytes : ℕ) : Type 0 where
@@ -100,11 +100,11 @@ module _ (rows columns : ℕ) (hs : List ℤ) (p : ℕ) where
           absurd (omega (arith, ltb-false next (rows * columns) (first-false _ _ stop (le-leb bytes last none)))))
 
 -- pieces of the text, one after the other
-pub from-zero : (rows columns : ℕ) (hs : List ℤ) (n : ℕ) → linesFrom rows columns hs 0 n ≡ joined (listOf (postLines rows columns hs) n)
+pub from-zero : (rows columns : ℕ) (hs : List ℤ) (n : ℕ) → linesFrom rows columns hs 0 n ≡ concat (listOf (postLines rows columns hs) n)
 unfolding linesFrom
 from-zero rows columns hs n =
     let e : n - 0 ≡ n = omega arith in
-    rw e (ap joined (listOf-ext (λ i. postLines rows columns hs (0 + i)) (postLines rows columns hs) n (λ i _. let f : 0 + i ≡ i = omega arith in rw f)))
+    rw e (ap concat (listOf-ext (λ i. postLines rows columns hs (0 + i)) (postLines rows columns hs) n (λ i _. let f : 0 + i ≡ i = omega arith in rw f)))
 
 -- all posts' lines are those up to a post and those from it on
 pub from-both : (rows columns : ℕ) (hs : List ℤ) (p q n : ℕ) → p ≤ q → linesFrom rows columns hs p q ++ linesFrom rows columns hs q (q + n) ≡ linesFrom rows columns hs p (q + n)

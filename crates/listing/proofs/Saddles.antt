@@ -13,9 +13,9 @@ use Rattle.surface.specs.Plot.{virtualPit}
 use Rattle.surface.specs.Edges.{lowest}
 use Rattle.surface.specs.Marks.{ringOf}
 use Rattle.surface.specs.Lines.{line, lowestOf}
-use Rattle.surface.specs.Lister.{joined, decimal, textLine, endName, lineText}
+use Rattle.surface.specs.Lister.{concat, decimal, textLine, endName, lineText}
 use Rattle.surface.proofs.ListOf.{length-listOf, getD-listOf}
-use Rattle.surface.proofs.Listing.{joined-more, walk-last, runs-few}
+use Rattle.surface.proofs.Listing.{concat-more, walk-last, runs-few}
 use Rattle.surface.proofs.RunMembers.{runs-run}
 use Rattle.surface.proofs.Walks.{Vertex, end-stop, pit-stop}
 use Rattle.plot.specs.Scan.{toward}
@@ -105,8 +105,8 @@ module _ {rows columns : ℕ} {hs : List ℤ} {up : Bool} {p : ℕ} {ring : Ring
         unfolding runLines lineText
         line-more letter end f w v =
             let t : lastOr virtualPit (lineOf rows columns hs up p run) ≡ end = line-end ∙ sym f in
-            rw (joined-more (λ run. lineText rows columns hs letter p run (lineOf rows columns hs up p run)) run, t) (within (omega arith) (more w v))
+            rw (concat-more (λ run. lineText rows columns hs letter p run (lineOf rows columns hs up p run)) run, t) (within (omega arith) (more w v))
 
 pub no-lines : (rows columns : ℕ) (hs : List ℤ) (up : Bool) (letter p : ℕ) (l : List ℕ) (at : ℕ) → Wrote 0 l l at (runLines rows columns hs up letter p 0) at
-unfolding runLines listOf joined
+unfolding runLines listOf concat
 no-lines rows columns hs up letter p l at = nothing l at

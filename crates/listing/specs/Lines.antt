@@ -10,7 +10,7 @@ use Rattle.surface.specs.Lists.{listOf}
 use Rattle.surface.specs.Plot.{virtualPit}
 use Rattle.surface.specs.Marks.{ringOf, markAt}
 use Rattle.surface.specs.Lines.{dalesOf, hillsOf}
-use Rattle.surface.specs.Lister.{joined, lineText, postLines}
+use Rattle.surface.specs.Lister.{concat, lineText, postLines}
 use Rattle.plot.specs.Fits.{Fits}
 use Rattle.plot.specs.Rings.{Held}
 use Rattle.plot.specs.declared.ring.Ring.{Ring}
@@ -28,11 +28,11 @@ module _ (rows columns : ℕ) (hs : List ℤ) where
 
   -- the lines of a post and its first n runs
   unfoldable pub runLines : Bool → ℕ → ℕ → ℕ → List ℕ
-  runLines up letter p n = joined (listOf (λ run. lineText rows columns hs letter p run (lineOf rows columns hs up p run)) n)
+  runLines up letter p n = concat (listOf (λ run. lineText rows columns hs letter p run (lineOf rows columns hs up p run)) n)
 
   -- the lines of the posts from one up to another
   unfoldable pub linesFrom : ℕ → ℕ → List ℕ
-  linesFrom from next = joined (listOf (λ i. postLines rows columns hs (from + i)) (next - from))
+  linesFrom from next = concat (listOf (λ i. postLines rows columns hs (from + i)) (next - from))
 
 -- p is a saddle with this ring, and the ends are known
 pub record Saddle (rows columns : ℕ) (hs : List ℤ) (up : Bool) (p : ℕ) (ring : Ring) (ends : List ℕ) : Type 0 where

@@ -45,15 +45,15 @@ pub fn put_first(
     marks: &mut [u8],
     dales: &mut [u16],
     hills: &mut [u16],
-    buffer: &mut [u8],
+    out: &mut [u8],
 ) -> Begun
-    requires { ⌜ Room (now file) (now heights) (now marks) (now dales) (now hills) × (60 ≤ length (now buffer)) ⌝ }
-    ensures { λ r. ⌜ Begins (now (file .entry)) (now (heights .exit)) (now (dales .exit)) (now (hills .exit)) (now (buffer .exit)) r ⌝ }
+    requires { ⌜ Room (now file) (now heights) (now marks) (now dales) (now hills) × (60 ≤ length (now out)) ⌝ }
+    ensures { λ r. ⌜ Begins (now (file .entry)) (now (heights .exit)) (now (dales .exit)) (now (hills .exit)) (now (out .exit)) r ⌝ }
 {
     let size = read_survey(file, heights);
     let code = size.code;
     if code != 0 {
-        let bytes = put_refused(buffer, 0, code, size.place);
+        let bytes = put_refused(out, 0, code, size.place);
         return Begun {
             rows: 0,
             columns: 0,
@@ -62,17 +62,9 @@ pub fn put_first(
     }
     let rows = size.rows;
     let columns = size.columns;
-    let counts = survey(rows, columns, heights, marks);
+    let sums = survey(rows, columns, heights, marks);
     dales_and_hills(rows, columns, heights, dales, hills);
-    let bytes = put_head(
-        buffer,
-        0,
-        rows,
-        columns,
-        counts.peaks,
-        counts.pits,
-        counts.saddles,
-    );
+    let bytes = put_head(out, 0, rows, columns, sums.peaks, sums.pits, sums.saddles);
     Begun {
         rows: rows as usize,
         columns: columns as usize,

@@ -1,4 +1,4 @@
--- Laws of the lister's text: lists joined one after the other, the last entry of a line, and how many lines a post can have.
+-- Laws of the lister's text: lists put one after the other, the last entry of a line, and how many lines a post can have.
 use Prim.Native.Nat.{ℕ, zero, suc, _+_, _≤_}
 use native.Mathlib.Omega.{arith}
 use mathlib.Core.Path.{_≡_, refl, sym}
@@ -8,20 +8,20 @@ use lib.ListN.{length}
 use Rattle.surface.specs.Lists.{listOf, keep, all, takeWhile, lastOr}
 use Rattle.surface.specs.Edges.{runs, runsFrom}
 use Rattle.surface.specs.Lines.{isEnd, next, walk, end}
-use Rattle.surface.specs.Lister.{joined}
+use Rattle.surface.specs.Lister.{concat}
 use Rattle.surface.proofs.Walks.{Descent, end-stop}
 
-joined-append : {A : Type 0} (l m : List (List A)) → joined (l ++ m) ≡ joined l ++ joined m
-unfolding joined
-joined-append [] m = refl
-joined-append (x ∷ l) m = rw (joined-append l m) (sym (append-assoc x (joined l) (joined m)))
+concat-append : {A : Type 0} (l m : List (List A)) → concat (l ++ m) ≡ concat l ++ concat m
+unfolding concat
+concat-append [] m = refl
+concat-append (x ∷ l) m = rw (concat-append l m) (sym (append-assoc x (concat l) (concat m)))
 
 -- one more
-pub joined-more : {A : Type 0} (f : ℕ → List A) (n : ℕ) → joined (listOf f (n + 1)) ≡ joined (listOf f n) ++ f n
-unfolding joined listOf
-joined-more f n =
+pub concat-more : {A : Type 0} (f : ℕ → List A) (n : ℕ) → concat (listOf f (n + 1)) ≡ concat (listOf f n) ++ f n
+unfolding concat listOf
+concat-more f n =
     let e : n + 1 ≡ suc n = omega arith in
-    rw (e, joined-append (listOf f n) (f n ∷ []), append-nil (f n))
+    rw (e, concat-append (listOf f n) (f n ∷ []), append-nil (f n))
 
 -- a walk's last entry is where it ends
 module _ {n : ℕ} {lower : ℕ → ℕ → Bool} {ring : ℕ → List ℕ} {pick : ℕ → List ℕ → ℕ} (d : Descent n lower ring pick) where

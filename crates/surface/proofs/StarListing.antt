@@ -8,8 +8,8 @@ use Rattle.surface.specs.Lines.{isEnd, next, walk, line, thalweg, ridge}
 use Rattle.surface.specs.SurveyFile.{wordAt, signed, unsigned, bytesOf, statedCount, tenthsOf, rounded, heightsIn, filedHeights, fileOf}
 use Rattle.surface.specs.Refusals.{verdict, readVerdict}
 use Rattle.surface.specs.Calls.{readAnswer, readHeights}
-use Rattle.surface.specs.Lister.{joined, digits, decimal, fields, textLine, endName, headLine, lineText, saddleLines, postLines, plotText, listing, printed, StarListing}
+use Rattle.surface.specs.Lister.{concat, digits, decimal, fields, textLine, endName, headLine, lineText, saddleLines, postLines, plotText, listing, printed, StarListing}
 
 pub star-listing : StarListing
-unfolding listOf filter any all takeWhile lastOr count total firstNot virtualPit below lowest lowestOr throughLowest members places ring runs runsFrom markFor mark markAt marksOf ringOf peaks pits saddles isEnd next walk line thalweg ridge wordAt signed unsigned bytesOf statedCount tenthsOf rounded heightsIn filedHeights fileOf verdict readVerdict readAnswer readHeights joined digits decimal fields textLine endName headLine lineText saddleLines postLines plotText listing printed
+unfolding listOf filter any all takeWhile lastOr count total firstNot virtualPit below lowest lowestOr throughLowest members places ring runs runsFrom markFor mark markAt marksOf ringOf peaks pits saddles isEnd next walk line thalweg ridge wordAt signed unsigned bytesOf statedCount tenthsOf rounded heightsIn filedHeights fileOf verdict readVerdict readAnswer readHeights concat digits decimal fields textLine endName headLine lineText saddleLines postLines plotText listing printed
 star-listing = refl

@@ -16,9 +16,9 @@ use Rattle.surface.specs.Calls.{readAnswer, readHeights}
 use Rattle.surface.specs.Bench.{star}
 
 -- lists one after the other
-unfoldable pub joined : {A : Type 0} → List (List A) → List A
-joined [] = []
-joined (x ∷ l) = x ++ joined l
+unfoldable pub concat : {A : Type 0} → List (List A) → List A
+concat [] = []
+concat (x ∷ l) = x ++ concat l
 
 -- a number in decimal digits, without leading zeros; ten digits are enough for 32 bits
 unfoldable pub digits : ℕ → ℕ → List ℕ
@@ -54,15 +54,15 @@ module _ (rows columns : ℕ) (hs : List ℤ) where
   -- a saddle's water lines, then its crest lines
   unfoldable pub saddleLines : ℕ → List ℕ
   saddleLines p =
-      joined (listOf (λ run. lineText 84 p run (thalweg rows columns hs p run)) (length (lowerRuns (below hs) (ringOf rows columns hs) p)))
-      ++ joined (listOf (λ run. lineText 82 p run (ridge rows columns hs p run)) (length (upperRuns (below hs) (ringOf rows columns hs) p)))
+      concat (listOf (λ run. lineText 84 p run (thalweg rows columns hs p run)) (length (lowerRuns (below hs) (ringOf rows columns hs) p)))
+      ++ concat (listOf (λ run. lineText 82 p run (ridge rows columns hs p run)) (length (upperRuns (below hs) (ringOf rows columns hs) p)))
 
   unfoldable pub postLines : ℕ → List ℕ
   postLines p = cond (ltb (markAt rows columns hs p) 3) [] (saddleLines p)
 
   -- the saddles in post order
   unfoldable pub plotText : List ℕ
-  plotText = headLine ++ joined (listOf postLines (rows * columns))
+  plotText = headLine ++ concat (listOf postLines (rows * columns))
 
 -- a refusal: E, number, place
 unfoldable pub refusedText : ℕ → ℕ → List ℕ

@@ -24,7 +24,7 @@ returns c =
     let h = w .before .before .before in
     let r = h .before in
     let s = r .before .before .before .before .before .before .before in
-    begins-refused (s .args .file .now) (s .args .heights .now) (s .pre .0 .heightsSize) (r .read-survey .result) (r .read-survey .ensures .0) _ _ _ (s .args .buffer .now) _ (w .put-refused .result) (w .before .before .if1 .taken) (s .pre .1) (w .put-refused .ensures)
+    begins-refused (s .args .file .now) (s .args .heights .now) (s .pre .0 .heightsSize) (r .read-survey .result) (r .read-survey .ensures .0) _ _ _ (s .args .out .now) _ (w .put-refused .result) (w .before .before .if1 .taken) (s .pre .1) (w .put-refused .ensures)
 
 survey-requires : tie.Need-survey-requires
 survey-requires c κs = search needs
@@ -70,7 +70,7 @@ returns-2 c =
     let m = d .before .before .before .before .before .before in
     let r = m .before .before .before .before .before in
     let s = r .before .before .before .before .before .before .before in
-    begins-accepted (s .args .file .now) (s .args .heights .now) (s .pre .0 .heightsSize) (r .read-survey .result) (r .read-survey .ensures .0) _ (s .args .marks .now) (s .args .dales .now) (s .args .hills .now) _ _ (s .args .buffer .now) _ (m .survey .result) (w .put-head .result) (m .before .before .before .if1 .left) (r .read-survey .ensures .1) (m .survey .ensures .0) (d .dales-and-hills .ensures .1 .0) (d .dales-and-hills .ensures .1 .1) (s .pre .0) (s .pre .1) (w .put-head .ensures)
+    begins-accepted (s .args .file .now) (s .args .heights .now) (s .pre .0 .heightsSize) (r .read-survey .result) (r .read-survey .ensures .0) _ (s .args .marks .now) (s .args .dales .now) (s .args .hills .now) _ _ (s .args .out .now) _ (m .survey .result) (w .put-head .result) (m .before .before .before .if1 .left) (r .read-survey .ensures .1) (m .survey .ensures .0) (d .dales-and-hills .ensures .1 .0) (d .dales-and-hills .ensures .1 .1) (s .pre .0) (s .pre .1) (w .put-head .ensures)
 
 pub put-first-spec : {M : Type 1} → statement M
 put-first-spec =
