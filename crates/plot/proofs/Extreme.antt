@@ -1,6 +1,6 @@
 -- Next down and next up as a scan of the places round a post, in any order: a step takes a place's member where it is lower than what was found so
 -- far. Over any strict total order; next up is next down in the reversed order.
-use Prim.Native.Nat.{ℕ, _+_, _-_, _*_, _<_, _≤_}
+use Prim.Native.Nat.{ℕ, _+_, _-_, _*_, _<_}
 use mathlib.Core.Path.{_≡_, refl, sym, ap, _∙_}
 use mathlib.Core.Bool.{Bool, true, false, cond, not, _&&_, _||_, true≢false, or-true}
 use mathlib.Core.List.{List, [], _∷_, _++_}

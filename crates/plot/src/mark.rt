@@ -1,8 +1,5 @@
 // The mark of a post.
-use crate::border::Borders;
-use crate::side;
 use crate::sign;
-use crate::sign::Corners;
 use crate::sign::Signs;
 ghost use mathlib.Core.Path.{_≡_};
 ghost use Prim.Native.Nat.{_+_, _*_, _≤_, _<_};

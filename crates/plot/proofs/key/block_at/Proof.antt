@@ -52,10 +52,28 @@ key-back-requires-4 c κs = let start = c .before .before .before .before .befor
     (start .pre .0, omega arith, omega arith, omega arith, omega (arith, start .pre .1 .wide), λ h. omega (arith, start .pre .1 .northWest h))
 
 returns : tie.Need-returns
-returns c = (
-  rw (c .key-back4 .ensures .0, c .before .before .before .key-back3 .ensures .0, c .before .before .before .before .before .key-ahead4 .ensures .0, c .before .before .before .before .before .before .before .before .key-ahead3 .ensures .0, c .before .before .before .before .before .before .before .before .before .before .key-ahead2 .ensures .0, c .before .before .before .before .before .before .before .before .before .before .before .before .before .key-ahead .ensures .0, c .before .before .before .before .before .before .before .before .before .before .before .before .before .before .before .key-back2 .ensures .0, c .before .before .before .before .before .before .before .before .before .before .before .before .before .before .before .before .before .before .key-back .ensures .0, c .before .before .before .before .before .before .before .before .before .before .before .before .before .before .before .before .before .before .before .before .key-of .ensures .0),
-  record { post = c .before .before .before .before .before .before .before .before .before .before .before .before .before .before .before .before .before .before .before .before .key-of .ensures .1; n = c .before .before .before .before .before .before .before .before .before .before .before .before .before .before .before .before .before .before .key-back .ensures .1; ne = c .before .before .before .before .before .before .before .before .before .before .before .before .before .before .before .key-back2 .ensures .1; e = c .before .before .before .before .before .before .before .before .before .before .before .before .before .key-ahead .ensures .1; se = c .before .before .before .before .before .before .before .before .before .before .key-ahead2 .ensures .1; s = c .before .before .before .before .before .before .before .before .key-ahead3 .ensures .1; sw = c .before .before .before .before .before .key-ahead4 .ensures .1; w = c .before .before .before .key-back3 .ensures .1; nw = c .key-back4 .ensures .1 },
-)
+returns c =
+    let w = c .before .before .before in
+    let sw = w .before .before in
+    let s = sw .before .before .before in
+    let se = s .before .before in
+    let e = se .before .before .before in
+    let ne = e .before .before in
+    let n = ne .before .before .before in
+    let post = n .before .before in (
+      rw (c .key-back4 .ensures .0, w .key-back3 .ensures .0, sw .key-ahead4 .ensures .0, s .key-ahead3 .ensures .0, se .key-ahead2 .ensures .0, e .key-ahead .ensures .0, ne .key-back2 .ensures .0, n .key-back .ensures .0, post .key-of .ensures .0),
+      record {
+        post = post .key-of .ensures .1;
+        n = n .key-back .ensures .1;
+        ne = ne .key-back2 .ensures .1;
+        e = e .key-ahead .ensures .1;
+        se = se .key-ahead2 .ensures .1;
+        s = s .key-ahead3 .ensures .1;
+        sw = sw .key-ahead4 .ensures .1;
+        w = w .key-back3 .ensures .1;
+        nw = c .key-back4 .ensures .1;
+      },
+    )
 
 pub block-at-spec : {M : Type 1} → statement M
 block-at-spec =

@@ -1,7 +1,6 @@
 -- The posts round one on no border are posts of the plot.
 use native.Mathlib.Omega.{arith}
 use mathlib.Core.Path.{refl}
-use borrow.Author.Needs.{needs}
 use Rattle.plot.proofs.key.block_inside.Statement.{statement}
 use Rattle.plot.proofs.key.block_inside.Tie as tie
 
@@ -78,10 +77,28 @@ key-of-requires-9 c κs = let start = c .before .before .before .before .before 
     (start .pre .0, omega (arith, start .pre .1, start .pre .1 .northWest refl), start .pre .1 .small, start .pre .1 .narrow, omega (arith, start .pre .1, start .pre .1 .northWest refl))
 
 returns : tie.Need-returns
-returns c = (
-  rw (c .key-of9 .ensures .0, c .before .key-of8 .ensures .0, c .before .before .key-of7 .ensures .0, c .before .before .before .key-of6 .ensures .0, c .before .before .before .before .key-of5 .ensures .0, c .before .before .before .before .before .key-of4 .ensures .0, c .before .before .before .before .before .before .key-of3 .ensures .0, c .before .before .before .before .before .before .before .key-of2 .ensures .0, c .before .before .before .before .before .before .before .before .key-of .ensures .0),
-  record { post = c .before .before .before .before .before .before .before .before .key-of .ensures .1; n = c .before .before .before .before .before .before .before .key-of2 .ensures .1; ne = c .before .before .before .before .before .before .key-of3 .ensures .1; e = c .before .before .before .before .before .key-of4 .ensures .1; se = c .before .before .before .before .key-of5 .ensures .1; s = c .before .before .before .key-of6 .ensures .1; sw = c .before .before .key-of7 .ensures .1; w = c .before .key-of8 .ensures .1; nw = c .key-of9 .ensures .1 },
-)
+returns c =
+    let w = c .before in
+    let sw = w .before in
+    let s = sw .before in
+    let se = s .before in
+    let e = se .before in
+    let ne = e .before in
+    let n = ne .before in
+    let post = n .before in (
+      rw (c .key-of9 .ensures .0, w .key-of8 .ensures .0, sw .key-of7 .ensures .0, s .key-of6 .ensures .0, se .key-of5 .ensures .0, e .key-of4 .ensures .0, ne .key-of3 .ensures .0, n .key-of2 .ensures .0, post .key-of .ensures .0),
+      record {
+        post = post .key-of .ensures .1;
+        n = n .key-of2 .ensures .1;
+        ne = ne .key-of3 .ensures .1;
+        e = e .key-of4 .ensures .1;
+        se = se .key-of5 .ensures .1;
+        s = s .key-of6 .ensures .1;
+        sw = sw .key-of7 .ensures .1;
+        w = w .key-of8 .ensures .1;
+        nw = c .key-of9 .ensures .1;
+      },
+    )
 
 pub block-inside-spec : {M : Type 1} → statement M
 block-inside-spec =

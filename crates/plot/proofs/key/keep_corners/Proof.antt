@@ -30,10 +30,27 @@ choose-key-requires-4 : tie.Need-choose-key-requires-4
 choose-key-requires-4 c κs = search needs
 
 returns : tie.Need-returns
-returns c = let s = c .before .before .before .before .before .before .before .before in
-    let a = s .pre in (
-      rw (c .choose-key4 .ensures, c .before .choose-key3 .ensures, c .before .before .choose-key2 .ensures, c .before .before .before .choose-key .ensures, c .before .before .before .before .is-less4 .ensures, c .before .before .before .before .before .is-less3 .ensures, c .before .before .before .before .before .before .is-less2 .ensures, c .before .before .before .before .before .before .before .is-less .ensures),
-      record { post = a .post; n = a .n; e = a .e; s = a .s; w = a .w; ne = rw (c .before .before .before .choose-key .ensures) (small-cond (c .before .before .before .before .before .before .before .is-less .result && c .before .before .before .before .before .before .is-less2 .result) _ _ (a .ne) (a .post)); se = rw (c .before .before .choose-key2 .ensures) (small-cond (c .before .before .before .before .before .before .is-less2 .result && c .before .before .before .before .before .is-less3 .result) _ _ (a .se) (a .post)); sw = rw (c .before .choose-key3 .ensures) (small-cond (c .before .before .before .before .before .is-less3 .result && c .before .before .before .before .is-less4 .result) _ _ (a .sw) (a .post)); nw = rw (c .choose-key4 .ensures) (small-cond (c .before .before .before .before .is-less4 .result && c .before .before .before .before .before .before .before .is-less .result) _ _ (a .nw) (a .post)) },
+returns c =
+    let sw = c .before in
+    let se = sw .before in
+    let ne = se .before in
+    let w = ne .before in
+    let s = w .before in
+    let e = s .before in
+    let n = e .before in
+    let small = n .before .pre in (
+      rw (c .choose-key4 .ensures, sw .choose-key3 .ensures, se .choose-key2 .ensures, ne .choose-key .ensures, w .is-less4 .ensures, s .is-less3 .ensures, e .is-less2 .ensures, n .is-less .ensures),
+      record {
+        post = small .post;
+        n = small .n;
+        ne = rw (ne .choose-key .ensures) (small-cond (n .is-less .result && e .is-less2 .result) _ _ (small .ne) (small .post));
+        e = small .e;
+        se = rw (se .choose-key2 .ensures) (small-cond (e .is-less2 .result && s .is-less3 .result) _ _ (small .se) (small .post));
+        s = small .s;
+        sw = rw (sw .choose-key3 .ensures) (small-cond (s .is-less3 .result && w .is-less4 .result) _ _ (small .sw) (small .post));
+        w = small .w;
+        nw = rw (c .choose-key4 .ensures) (small-cond (w .is-less4 .result && n .is-less .result) _ _ (small .nw) (small .post));
+      },
     )
 
 pub keep-corners-spec : {M : Type 1} → statement M

@@ -6,7 +6,6 @@ use mathlib.Core.List.{List, [], _∷_}
 use Rattle.surface.specs.Edges.{lowestOr}
 use Rattle.plot.specs.Scan.{lowerOf}
 use Rattle.plot.specs.Keys.{order}
-use borrow.Author.Needs.{needs}
 use Rattle.plot.proofs.key.lowest_in.Statement.{statement}
 use Rattle.plot.proofs.key.lowest_in.Tie as tie
 
@@ -44,14 +43,21 @@ lower-of-requires-8 c κs = let s = c .before .before .before .before .before .b
 
 returns : tie.Need-returns
 returns c =
-    let lower = order (c .before .before .before .before .before .before .before .before .args .up) in
-    lowest-step lower _ _ _ _ _ (c .before .before .before .before .before .before .before .lower-of .ensures .0)
-    (lowest-step lower _ _ _ _ _ (c .before .before .before .before .before .before .lower-of2 .ensures .0)
-    (lowest-step lower _ _ _ _ _ (c .before .before .before .before .before .lower-of3 .ensures .0)
-    (lowest-step lower _ _ _ _ _ (c .before .before .before .before .lower-of4 .ensures .0)
-    (lowest-step lower _ _ _ _ _ (c .before .before .before .lower-of5 .ensures .0)
-    (lowest-step lower _ _ _ _ _ (c .before .before .lower-of6 .ensures .0)
-    (lowest-step lower _ _ _ _ _ (c .before .lower-of7 .ensures .0)
+    let w = c .before in
+    let sw = w .before in
+    let s = sw .before in
+    let se = s .before in
+    let e = se .before in
+    let ne = e .before in
+    let n = ne .before in
+    let lower = order (n .before .args .up) in
+    lowest-step lower _ _ _ _ _ (n .lower-of .ensures .0)
+    (lowest-step lower _ _ _ _ _ (ne .lower-of2 .ensures .0)
+    (lowest-step lower _ _ _ _ _ (e .lower-of3 .ensures .0)
+    (lowest-step lower _ _ _ _ _ (se .lower-of4 .ensures .0)
+    (lowest-step lower _ _ _ _ _ (s .lower-of5 .ensures .0)
+    (lowest-step lower _ _ _ _ _ (sw .lower-of6 .ensures .0)
+    (lowest-step lower _ _ _ _ _ (w .lower-of7 .ensures .0)
     (lowest-step lower _ _ _ _ _ (c .lower-of8 .ensures .0)
     (lowest-end lower _))))))))
 

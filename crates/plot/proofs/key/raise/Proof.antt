@@ -6,7 +6,6 @@ use mir.Syntax.{w32}
 use mir.Val.{SFits, toZ, ofZ}
 use mir.ValLaws.{toZ-ofZ}
 use Rattle.plot.proofs.Keyed.{raised-sum, raised-high}
-use borrow.Author.Needs.{needs}
 use Rattle.plot.proofs.key.raise.Statement.{statement}
 use Rattle.plot.proofs.key.raise.Tie as tie
 

@@ -1,6 +1,6 @@
 -- On a border next down is the virtual pit.
 use native.Mathlib.Omega.{arith}
-use mathlib.Core.Path.{_≡_, sym, _∙_}
+use mathlib.Core.Path.{sym, _∙_}
 use borrow.Author.Tests.{not-true, not-false}
 use Rattle.surface.specs.Plot.{virtualPit}
 use Rattle.plot.proofs.Round.{few}

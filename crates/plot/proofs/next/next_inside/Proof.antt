@@ -6,7 +6,6 @@ use Rattle.plot.specs.Scan.{nextBy}
 use Rattle.plot.proofs.Round.{few}
 use Rattle.plot.proofs.Block.{room-inside}
 use Rattle.plot.proofs.Keyed.{Tells, down-told, up-inside-told}
-use borrow.Author.Needs.{needs}
 use Rattle.plot.proofs.next.next_inside.Statement.{statement}
 use Rattle.plot.proofs.next.next_inside.Tie as tie
 

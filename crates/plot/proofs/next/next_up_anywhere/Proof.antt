@@ -6,7 +6,6 @@ use Rattle.plot.specs.Scan.{nextBy}
 use Rattle.plot.proofs.Round.{few}
 use Rattle.plot.proofs.Block.{room-cells}
 use Rattle.plot.proofs.Keyed.{Tells, up-told}
-use borrow.Author.Needs.{needs}
 use Rattle.plot.proofs.next.next_up_anywhere.Statement.{statement}
 use Rattle.plot.proofs.next.next_up_anywhere.Tie as tie
 
