@@ -11,22 +11,21 @@ use Rattle.surface.specs.Lists.{listOf}
 use Rattle.surface.specs.Plot.{virtualPit, below}
 use Rattle.surface.specs.Edges.{throughLowest}
 use Rattle.surface.specs.Marks.{ringOf}
-use Rattle.surface.specs.Lines.{end, lowestOf}
+use Rattle.surface.specs.Lines.{lowestOf}
 use Rattle.surface.proofs.Bools.{either}
 use Rattle.surface.proofs.Grid.{Sides}
 use Rattle.surface.proofs.Order.{rank}
 use Rattle.surface.proofs.RingEdges.{ring-member, ring-other}
 use Rattle.surface.proofs.Lowest.{lowest-member}
-use Rattle.surface.proofs.Walks.{Vertex, Descent, next-step, next-stop, pit-stop, walk-next, end-more, end-next, end-stop}
+use Rattle.surface.proofs.Walks.{Vertex, Descent, next-step, next-stop, pit-stop, walk-next, end-more}
 use Rattle.surface.proofs.WalkEntries.{listOf-front, walk-low, walk-list}
 use Rattle.surface.proofs.ListOf.{Filled}
 use Rattle.plot.specs.Fits.{Fits}
 use Rattle.plot.specs.Scan.{toward}
 use Rattle.plot.proofs.Round.{few}
 use Rattle.plot.proofs.Extreme.{toward-strict}
-use Rattle.lines.specs.Directed.{isEndOf, nextOf, after, walkOf, entryOf}
+use Rattle.lines.specs.Directed.{isEndOf, nextOf, walkOf, entryOf}
 use Rattle.lines.specs.declared.walk.Walk.{Walk}
-use Rattle.lines.specs.declared.walk.Followed.{Followed}
 
 module _ {rows columns : ℕ} {hs : List ℤ} (fits : Fits rows columns hs) where
   sides : Sides rows columns
@@ -91,7 +90,6 @@ module _ {rows columns : ℕ} {hs : List ℤ} (fits : Fits rows columns hs) wher
 pub record Along (rows columns : ℕ) (hs : List ℤ) (from at : Walk) (entries : ℕ) : Type 0 where
   pub vertex : Vertex (rows * columns) (at .post)
   pub same : at .up ≡ from .up
-  pub ends : after rows columns hs (from .up) (rows * columns) (at .post) ≡ after rows columns hs (from .up) (rows * columns) (from .post)
   pub counted : entries + length (walkOf rows columns hs (from .up) (at .post)) ≡ 1 + length (walkOf rows columns hs (from .up) (from .post))
 
 module _ {rows columns : ℕ} {hs : List ℤ} (fits : Fits rows columns hs) where
@@ -99,7 +97,7 @@ module _ {rows columns : ℕ} {hs : List ℤ} (fits : Fits rows columns hs) wher
   onward at = record { post = nextOf rows columns hs (at .up) (at .post); up = at .up }
 
   pub along-none : (from : Walk) → Vertex (rows * columns) (from .post) → Along rows columns hs from from 1
-  along-none from v = record { vertex = v; same = refl; ends = refl; counted = refl }
+  along-none from v = record { vertex = v; same = refl; counted = refl }
 
   -- the step is no end of the walk as it set out
   on : {from at : Walk} {entries : ℕ} → Along rows columns hs from at entries → (nextOf rows columns hs (at .up) (at .post) ≡ at .post → ⊥)
@@ -112,7 +110,6 @@ module _ {rows columns : ℕ} {hs : List ℤ} (fits : Fits rows columns hs) wher
       record {
         vertex = vertex-next fits (at .up) (at .post) (a .vertex);
         same = a .same;
-        ends = rw (a .same) (end-next (descent fits (from .up)) (at .post) (a .vertex) ∙ a .ends);
         counted = rw (a .same) (omega (arith, a .counted, length-more fits (from .up) (at .post) (a .vertex) (on a h)));
       }
 
@@ -125,13 +122,9 @@ module _ {rows columns : ℕ} {hs : List ℤ} (fits : Fits rows columns hs) wher
   along-low {from} {at} a = omega (arith, a .counted, walk-some fits (from .up) (at .post) (a .vertex))
 
   pub along-end : {from at : Walk} {entries : ℕ} → Along rows columns hs from at entries → nextOf rows columns hs (at .up) (at .post) ≡ at .post
-      → _≡_ {A = Followed} (record { end = at .post; entries = entries })
-      (record { end = after rows columns hs (from .up) (rows * columns) (from .post); entries = length (walkOf rows columns hs (from .up) (from .post)) })
+      → entries ≡ length (walkOf rows columns hs (from .up) (from .post))
   along-end {from} {at} {entries} a h =
-      let e = stays fits (from .up) (at .post) (a .vertex) (rw (a .same) at h) in
-      let k : entries ≡ length (walkOf rows columns hs (from .up) (from .post)) = omega (arith, a .counted, length-end fits (from .up) (at .post) (a .vertex) e) in
-      let i : at .post ≡ after rows columns hs (from .up) (rows * columns) (from .post) = sym (end-stop (descent fits (from .up)) (rows * columns) (at .post) e) ∙ a .ends in
-      rw (← k, ← i)
+      omega (arith, a .counted, length-end fits (from .up) (at .post) (a .vertex) (stays fits (from .up) (at .post) (a .vertex) (rw (a .same) at h)))
 
 -- the entries of a line
 module _ (rows columns : ℕ) (hs : List ℤ) (up : Bool) (p q : ℕ) where

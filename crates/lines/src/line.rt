@@ -2,7 +2,7 @@
 use crate::table::placed;
 use crate::table::start_of;
 use crate::walk::Walk;
-use crate::walk::follow;
+use crate::walk::entries_of;
 use surface::Entries;
 ghost use mathlib.Core.Path.{_≡_};
 ghost use mathlib.Core.List.{_++_};
@@ -21,8 +21,7 @@ fn has_room(heights: &[i32], rows: usize, columns: usize, from: Walk, room: usiz
     ensures { λ r. ⌜ r ≡ ltb (length (walkOf rows columns (now (heights .entry)) (from .up) (from .post))) room ⌝ }
 {
     if room <= heights.len() {
-        let walked = follow(heights, rows, columns, from);
-        return walked.entries < room;
+        return entries_of(heights, rows, columns, from) < room;
     }
     true
 }
@@ -43,16 +42,18 @@ fn write_entries(
     line[0] = p as u16;
     let mut at = from;
     let mut i = 1;
-    let count = loop {
+    let end = loop {
         let here = at.post;
+        let ahead = at.next(heights, rows, columns);
+        if ahead.post == here {
+            break here;
+        }
         line[i] = here as u16;
         i += 1;
-        at = at.next(heights, rows, columns);
-        if at.post == here {
-            break i;
-        }
+        at = ahead;
     };
-    count
+    line[i] = end as u16;
+    i + 1
 }
 
 // The answer of a line that is refused.

@@ -5,18 +5,12 @@ ghost use Prim.Native.Nat.{_*_};
 ghost use lib.ListN.{length};
 ghost use Rattle.surface.proofs.Walks.{Vertex};
 ghost use Rattle.plot.specs.Fits.{Levelled};
-ghost use Rattle.lines.specs.Directed.{nextOf, after, walkOf};
+ghost use Rattle.lines.specs.Directed.{nextOf, walkOf};
 
 // Where a walk stands, at 65535 in the virtual pit, and whether it goes up.
 pub struct Walk {
     pub post: usize,
     pub up: bool,
-}
-
-// Where a walk ended, and how many posts it went by, the first and the end among them.
-pub struct Followed {
-    pub end: usize,
-    pub entries: usize,
 }
 
 impl Walk {
@@ -37,21 +31,21 @@ impl Walk {
     }
 }
 
-// Follows a walk until its end.
-pub fn follow(heights: &[i32], rows: usize, columns: usize, from: Walk) -> Followed
+// How many posts a walk goes by until its end, the first and the end among them.
+pub(crate) fn entries_of(heights: &[i32], rows: usize, columns: usize, from: Walk) -> usize
     requires { ⌜ Levelled rows columns (now heights) × Vertex (rows * columns) (from .post) ⌝ }
-    ensures { λ r. ⌜ r ≡ record { end = after rows columns (now (heights .entry)) (from .up) (rows * columns) (from .post); entries = length (walkOf rows columns (now (heights .entry)) (from .up) (from .post)) } ⌝ }
+    ensures { λ r. ⌜ r ≡ length (walkOf rows columns (now (heights .entry)) (from .up) (from .post)) ⌝ }
 {
     let mut at = from;
     let mut entries: usize = 1;
-    let end = loop {
+    let count = loop {
         let here = at.post;
         let ahead = at.next(heights, rows, columns);
         if ahead.post == here {
-            break here;
+            break entries;
         }
         at = ahead;
         entries += 1;
     };
-    Followed { end, entries }
+    count
 }

@@ -64,6 +64,7 @@ pub record Starred : Type 0 where
   pub crossedLine : thalwegList 2 2 crossed 2 0 (entries 4) ≡ 2 ∷ 1 ∷ 65535 ∷ 7 ∷ []
   pub crossedCount : thalwegAnswer 2 2 crossed 2 0 (entries 4) ≡ written 3
   pub crossedExact : thalwegList 2 2 crossed 2 0 (entries 3) ≡ 2 ∷ 1 ∷ 65535 ∷ []
+  pub crossedExactCount : thalwegAnswer 2 2 crossed 2 0 (entries 3) ≡ written 3
   -- a list of two: refusal 9
   pub crossedShort : thalwegAnswer 2 2 crossed 2 0 (entries 2) ≡ refused 9
   pub crossedShortList : thalwegList 2 2 crossed 2 0 (entries 2) ≡ entries 2
@@ -72,10 +73,13 @@ pub record Starred : Type 0 where
   -- its crest line 0: 4, 1 in two entries
   pub starLine : ridgeList 3 3 star 4 0 (entries 3) ≡ 4 ∷ 1 ∷ 7 ∷ []
   pub starCount : ridgeAnswer 3 3 star 4 0 (entries 3) ≡ written 2
+  pub starExact : ridgeList 3 3 star 4 0 (entries 2) ≡ 4 ∷ 1 ∷ []
+  pub starExactCount : ridgeAnswer 3 3 star 4 0 (entries 2) ≡ written 2
   -- run 2 of the crossed saddle: refusal 8
   pub crossedRun : thalwegAnswer 2 2 crossed 2 2 (entries 4) ≡ refused 8
   pub crossedRunUp : ridgeAnswer 2 2 crossed 2 2 (entries 4) ≡ refused 8
   pub crossedRunList : thalwegList 2 2 crossed 2 2 (entries 4) ≡ entries 4
+  pub crossedRunUpList : ridgeList 2 2 crossed 2 2 (entries 4) ≡ entries 4
   -- hollow: post 4 a pit, post 0 a saddle, post 8 a peak; counts 1, 2, 1
   pub hollowPit : getD (surveyMarks 3 3 hollow (marks 9)) 4 9 ≡ 2
   pub hollowSaddle : getD (surveyMarks 3 3 hollow (marks 9)) 0 9 ≡ 3

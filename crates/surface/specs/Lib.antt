@@ -6,12 +6,16 @@
 --     λ x. ..    let x = .. in ..            a function; a name for a value
 --     cond b x y                             x where b is true, else y;  &&, ||, not: of true and false
 --     leb a b   ltb a b   eqb a b   ltZ a b  the tests a ≤ b, a < b, a = b of natural numbers, and a < b of whole numbers
---     pos n     negsuc n                     the whole numbers n and -(n + 1); a - b of natural numbers is 0 where b is greater
+--     zero   suc n   a - b   a / b   a % b   0 and n + 1; a - b of natural numbers is 0 where b is greater; quotient and remainder
+--     pos n     negsuc n   negℤ a   a *ℤ b   the whole numbers n and -(n + 1); minus a; a times b
 --     []   x ∷ l   l ++ m   length           lists; x ∷ binds closer than ++
 --     getD l i d   set l i x   replicate n x element i of l, or d past its end; l with x at place i; x, n times
 --     take n l   drop n l   map f l          the first n elements; the others; f of each
 --     A × B   A ⊎ B   A ↔ B   A → ⊥   x ≡ y  and; or; if and only if; not; equal.  T b: b is true.  Unit {0}: no condition
 --     List·Memᴰ x l                          x is an element of l
+--     record { x = ..; y = .. }   a .x       a value of named parts; its part x
+--     data D where a b : ..                  the values, or the proofs, of D are made by a and b alone
+--     module _ (x : A) where ..              every definition in it takes x as a further, first argument
 pub mod Lists
 pub mod Plot
 pub mod Edges

@@ -75,7 +75,7 @@ listing file =
     let a = readAnswer file lent in
     cond (eqb (a .code) 0) (plotText (a .rows) (a .columns) (readHeights file lent)) (refusedText (a .code) (a .place))
 
--- at most 57,608 bytes of standard input are looked at
+-- at most 57,608 bytes of standard input are looked at. (No contract speaks of what a program reads or prints: that the lister prints this is tested.)
 unfoldable pub printed : List ℕ → List ℕ
 printed input = listing (take 57608 input)
 

@@ -1,6 +1,6 @@
 -- The loop's invariant: the first i entries are written, the others are as they were, and the walk stands at the next entry.
 -- The measure is the rank in the height order, which falls at every step.
-use Prim.Native.Nat.{_+_, _*_, _≤_}
+use Prim.Native.Nat.{_+_, _*_, _≤_, _<_}
 use mathlib.Core.Path.{_≡_, refl, sym, _∙_, ap}
 use native.Mathlib.Omega.{arith}
 use lib.ListN.{length, set, length-set}
@@ -11,7 +11,6 @@ use Rattle.surface.proofs.ListOf.{Filled, filled-more, filled-length}
 use Rattle.plot.specs.Scan.{toward}
 use Rattle.plot.proofs.Round.{few}
 use Rattle.lines.specs.declared.walk.Walk.{Walk}
-use Rattle.lines.specs.declared.walk.Followed.{Followed}
 use Rattle.lines.specs.Directed.{nextOf, walkOf, entryOf}
 use Rattle.lines.proofs.Walking.{vertex-low, length-low, Along, along-none, along-more, along-sinks, along-low, along-end, entry-more, filled-first}
 use Rattle.lines.proofs.line.write_entries.Statement.{statement}
@@ -57,20 +56,6 @@ kept : (l : tie.At-loop Inv-loop μ-loop) → length (l .loop .line) ≡ length 
 kept l =
     filled-length _ _ (l .loop .i) (l .loop .line) (omega (arith, long l, more l, l .before .before .pre .3)) (l .loop .inv .3) ∙ long l
 
-cast-line-2 : tie.Need-cast-line-2 Inv-loop μ-loop
-cast-line-2 c = omega (arith, vertex-low (c .before .before .pre .0 .fits) (c .loop .at .post) (c .loop .inv .1 .vertex))
-
-mul-line : tie.Need-mul-line Inv-loop μ-loop
-mul-line c = omega arith
-
-slice-write-line-2 : tie.Need-slice-write-line-2 Inv-loop μ-loop
-slice-write-line-2 c = omega (arith, kept c, more c, c .before .before .pre .3)
-
-add-i : tie.Need-add-i Inv-loop μ-loop
-add-i c =
-    let s = c .before .before in
-    omega (arith, more c, length-low (s .pre .0 .fits) (s .args .from .up) (s .args .from .post))
-
 next-requires : tie.Need-next-requires Inv-loop μ-loop
 next-requires c κs = (c .before .before .pre .0, c .loop .inv .1 .vertex)
 
@@ -88,6 +73,27 @@ moved : (c : tie.Else1 Inv-loop μ-loop)
     let a = l .before .before .args in
     nextOf (a .rows) (a .columns) (a .heights .now) (l .loop .at .up) (l .loop .at .post) ≡ l .loop .at .post → ⊥
 moved c e = c .if1 .left (ap (λ (w : Walk). w .post) (c .before .before .next .ensures) ∙ e)
+
+-- the walk's posts fit the list's entries, and the list has an entry for the next
+fits : (l : tie.At-loop Inv-loop μ-loop) → l .loop .at .post < 65536
+fits l = vertex-low (l .before .before .pre .0 .fits) (l .loop .at .post) (l .loop .inv .1 .vertex)
+
+room : (l : tie.At-loop Inv-loop μ-loop) → (l .loop .i < length (l .loop .line)) × (l .loop .i ≤ 14401)
+room l =
+    let s = l .before .before in
+    omega (arith, kept l, more l, s .pre .3, length-low (s .pre .0 .fits) (s .args .from .up) (s .args .from .post))
+
+cast-line-2 : tie.Need-cast-line-2 Inv-loop μ-loop
+cast-line-2 c = omega (arith, fits (c .before .before .before))
+
+mul-line : tie.Need-mul-line Inv-loop μ-loop
+mul-line c = omega arith
+
+slice-write-line-2 : tie.Need-slice-write-line-2 Inv-loop μ-loop
+slice-write-line-2 c = omega (arith, room (c .before .before .before))
+
+add-i : tie.Need-add-i Inv-loop μ-loop
+add-i c = omega (arith, room (c .before .before .before))
 
 loop-less : tie.Need-loop-less Inv-loop μ-loop
 loop-less c =
@@ -108,6 +114,18 @@ loop-again c =
       written l,
     )
 
+cast-line-3 : tie.Need-cast-line-3 Inv-loop μ-loop
+cast-line-3 c = omega (arith, fits (c .before .before .before))
+
+mul-line-2 : tie.Need-mul-line-2 Inv-loop μ-loop
+mul-line-2 c = omega arith
+
+slice-write-line-3 : tie.Need-slice-write-line-3 Inv-loop μ-loop
+slice-write-line-3 c = omega (arith, room (c .before .before .before))
+
+add-result : tie.Need-add-result Inv-loop μ-loop
+add-result c = omega (arith, room (c .before .before .before))
+
 same-length : tie.Need-same-length Inv-loop μ-loop
 same-length c = let l = c .before .before .before in length-set (l .loop .line) (l .loop .i) (l .loop .at .post) ∙ kept l
 
@@ -117,7 +135,7 @@ returns c =
     let l = n .before in
     let s = l .before .before in
     let e = along-end (s .pre .0 .fits) (l .loop .inv .1) (sym (ap (λ (w : Walk). w .post) (n .next .ensures)) ∙ c .if1 .taken) in (
-      omega (arith, ap (λ (f : Followed). f .entries) e),
+      omega (arith, e),
       rw (written l, drop-set-lt (l .loop .i + 1) (s .args .line .now) 0 (s .args .p) (omega arith)),
     )
 
@@ -130,12 +148,16 @@ write-entries-spec =
     cast-line
     slice-write-line
     loop-holds
+    next-requires
     cast-line-2
     mul-line
     slice-write-line-2
     add-i
-    next-requires
     loop-less
     loop-again
+    cast-line-3
+    mul-line-2
+    slice-write-line-3
+    add-result
     same-length
     returns)

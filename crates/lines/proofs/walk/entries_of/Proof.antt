@@ -1,4 +1,4 @@
--- The loop's invariant: the walk ends where it would have ended from its start, and what was counted and what is to come make its entries.
+-- The loop's invariant: what was counted and what is to come make the walk's entries.
 -- The measure is the rank in the height order, which falls at every step.
 use Prim.Native.Nat.{_*_}
 use mathlib.Core.Path.{_≡_, sym, _∙_, ap}
@@ -8,8 +8,8 @@ use Rattle.plot.specs.Scan.{toward}
 use Rattle.lines.specs.declared.walk.Walk.{Walk}
 use Rattle.lines.specs.Directed.{nextOf}
 use Rattle.lines.proofs.Walking.{Along, along-none, along-more, along-sinks, along-end, length-low}
-use Rattle.lines.proofs.walk.follow.Statement.{statement}
-use Rattle.lines.proofs.walk.follow.Tie as tie
+use Rattle.lines.proofs.walk.entries_of.Statement.{statement}
+use Rattle.lines.proofs.walk.entries_of.Tie as tie
 
 abbrev Inv-loop : tie.InvT-loop
 Inv-loop heights rows columns at₀ entries₀ at entries = Along rows columns heights at₀ at entries
@@ -53,7 +53,7 @@ returns c =
     let l = n .before in
     along-end (l .before .pre .0 .fits) (l .loop .inv) (sym (ap (λ (w : Walk). w .post) (n .next .ensures)) ∙ c .if1 .taken)
 
-pub follow-spec : {M : Type 1} → statement M
-follow-spec =
+pub entries-of-spec : {M : Type 1} → statement M
+entries-of-spec =
     tie.close
     (tie.spec Inv-loop μ-loop loop-holds next-requires add-entries loop-less loop-again returns)
