@@ -18,7 +18,8 @@ use Rattle.surface.proofs.Walks.{line-falls}
 use Rattle.lines.specs.declared.table.Start.{Start}
 use Rattle.lines.specs.Directed.{walkOf, runsOf, lineOf, entryOf, verdictOf}
 use Rattle.lines.specs.Rows.{Placed, Started}
-use Rattle.lines.proofs.Walking.{descent, line-entries}
+use Rattle.plot.proofs.Descents.{descent}
+use Rattle.lines.proofs.Walking.{line-entries}
 
 module _ (v : Verdict) (entries list : List ℕ) where
   abbrev pub Outcome : Entries → List ℕ → Type 0

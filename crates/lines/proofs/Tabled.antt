@@ -30,7 +30,8 @@ use Rattle.plot.proofs.Sizes.{in-range}
 use Rattle.lines.specs.Runs.{StartsAt, Round}
 use Rattle.lines.specs.Rows.{Placed, Started}
 use Rattle.plot.proofs.Extreme.{toward-strict}
-use Rattle.lines.proofs.Walking.{others, vertices}
+use Rattle.plot.proofs.Descents.{descent}
+use Rattle.lines.proofs.Walking.{others}
 
 -- a row that is the last of a call's rows and refuses does so whatever rows come after it
 still-refuses : (r : Row) (rest : List Row) → (verdict (r ∷ []) .code ≡ 0 → ⊥) → verdict (r ∷ rest) ≡ verdict (r ∷ [])
@@ -125,7 +126,7 @@ module _ {rows columns : ℕ} {hs : List ℤ} (fits : Fits rows columns hs) (up 
         some = rw (k .len) (all-some low ring (mixed h));
         low = k .low;
         size = k .size;
-        vertex = λ i j. rw (k .members, fits .size) (vertices fits p (getD ring i 0) post (getD-member ring i (omega (arith, k .len))));
+        vertex = λ i j. rw (k .members, fits .size) (descent fits up .ringVertex p (getD ring i 0) post (getD-member ring i (omega (arith, k .len))));
         mixed = rw (k .members) (mixed h);
       }
 
@@ -156,7 +157,7 @@ module _ {rows columns : ℕ} {hs : List ℤ} (fits : Fits rows columns hs) (up 
     started-0 m q e =
         let r = runs-run low ring run (k .numbered m) in
         let i : q ≡ lowest (toward hs up) (getD (runs low ring) run []) = e ∙ ap (lowest (toward hs up)) (sym (k .run m)) in
-        let v = vertices fits p _ post (r .member _ (lowest-member (toward hs up) (r .some) _ (r .there)) .0) in
+        let v = descent fits up .ringVertex p _ post (r .member _ (lowest-member (toward hs up) (r .some) _ (r .there)) .0) in
         record {
           refuses = λ n. absurd (n refl);
           passes = λ _ rest. row-passed _ _ past-7 ∙ row-passed _ _ (ap not (lt-ltb run _ (k .numbered m)));

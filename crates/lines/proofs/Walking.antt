@@ -1,7 +1,7 @@
 -- Walks in either direction over a plot: document 01's descent is one, and so is its ascent, in the reversed order.
 use Prim.Native.Nat.{ℕ, zero, suc, _+_, _*_, _≤_, _<_}
 use native.Mathlib.Omega.{arith}
-use mathlib.Core.Path.{_≡_, refl, sym, _∙_, ap, subst}
+use mathlib.Core.Path.{_≡_, refl, sym, _∙_, ap}
 use mathlib.Core.Logic.{_⊎_, ⊎-elim}
 use mathlib.Core.Bool.{Bool, true, false, true≢false}
 use mathlib.Core.List.{List, [], _∷_, List·Memᴰ}
@@ -13,75 +13,52 @@ use Rattle.surface.specs.Edges.{throughLowest}
 use Rattle.surface.specs.Marks.{ringOf}
 use Rattle.surface.specs.Lines.{lowestOf}
 use Rattle.surface.proofs.Bools.{either}
-use Rattle.surface.proofs.Grid.{Sides}
 use Rattle.surface.proofs.Order.{rank}
-use Rattle.surface.proofs.RingEdges.{ring-member, ring-other}
-use Rattle.surface.proofs.Lowest.{lowest-member}
-use Rattle.surface.proofs.Walks.{Vertex, Descent, next-step, next-stop, pit-stop, walk-next, end-more}
+use Rattle.surface.proofs.RingEdges.{ring-other}
+use Rattle.surface.proofs.Walks.{Vertex, next-vertex, next-step, next-stop, pit-stop, walk-next, end-more}
 use Rattle.surface.proofs.WalkEntries.{listOf-front, walk-low, walk-list}
 use Rattle.surface.proofs.ListOf.{Filled}
 use Rattle.plot.specs.Fits.{Fits}
 use Rattle.plot.specs.Scan.{toward}
-use Rattle.plot.proofs.Round.{few}
+use Rattle.plot.proofs.Round.{few, fits-sides}
 use Rattle.plot.proofs.Extreme.{toward-strict}
+use Rattle.plot.proofs.Descents.{fit, descent}
 use Rattle.lines.specs.Directed.{isEndOf, nextOf, walkOf, entryOf}
 use Rattle.lines.specs.declared.walk.Walk.{Walk}
 
 module _ {rows columns : ℕ} {hs : List ℤ} (fits : Fits rows columns hs) where
-  sides : Sides rows columns
-  sides = record { tall = omega arith; wide = omega arith }
-
-  pub fit : rows * columns ≤ virtualPit
-  unfolding virtualPit
-  fit = omega (arith, few fits)
-
-  pub vertex-low : (p : ℕ) → Vertex (rows * columns) p → p < 65536
-  unfolding virtualPit
-  vertex-low p v = ⊎-elim (λ (h : p < rows * columns). omega (arith, few fits)) (λ (h : p ≡ virtualPit). omega arith) v
-
   pub vertex-post : (p : ℕ) → Vertex (rows * columns) p → (p ≡ 65535 → ⊥) → p < rows * columns
   unfolding virtualPit
   vertex-post p v h = ⊎-elim (λ (k : p < rows * columns). k) (λ (k : p ≡ virtualPit). absurd (h k)) v
 
-  pub vertices : (p q : ℕ) → p < rows * columns → List·Memᴰ q (ringOf rows columns hs p) → Vertex (rows * columns) q
-  unfolding ringOf
-  vertices p q = ring-member sides (throughLowest (below hs) columns) fit p q
-
   pub others : (p q : ℕ) → p < rows * columns → List·Memᴰ q (ringOf rows columns hs p) → q ≡ p → ⊥
   unfolding ringOf
-  others p q = ring-other sides (throughLowest (below hs) columns) fit p q
+  others p q = ring-other (fits-sides fits) (throughLowest (below hs) columns) (fit fits) p q
 
   module _ (up : Bool) where
-    pub descent : Descent (rows * columns) (toward hs up) (ringOf rows columns hs) (lowestOf (toward hs up))
-    descent = record { order = toward-strict hs up; ringVertex = vertices; picksMember = λ p q l m. lowest-member (toward hs up) q l m }
-
     -- a walk stays exactly at an end
     pub stays : (p : ℕ) → Vertex (rows * columns) p → nextOf rows columns hs up p ≡ p → isEndOf rows columns hs up p ≡ true
     stays p v h =
         either (isEndOf rows columns hs up p) (λ e. e)
         (λ e.
-        absurd (true≢false (sym (next-step descent p v e .falls) ∙ ap (λ (q : ℕ). toward hs up q p) h ∙ toward-strict hs up .irrefl p)))
+        absurd (true≢false (sym (next-step (descent fits up) p v e .falls) ∙ ap (λ (q : ℕ). toward hs up q p) h ∙ toward-strict hs up .irrefl p)))
 
     pub moves : (p : ℕ) → (nextOf rows columns hs up p ≡ p → ⊥) → isEndOf rows columns hs up p ≡ false
-    moves p h = either (isEndOf rows columns hs up p) (λ e. absurd (h (next-stop descent p e))) (λ e. e)
+    moves p h = either (isEndOf rows columns hs up p) (λ e. absurd (h (next-stop (descent fits up) p e))) (λ e. e)
 
     pub next-pit : (p : ℕ) → p ≡ 65535 → nextOf rows columns hs up p ≡ p
     unfolding virtualPit
-    next-pit p e = next-stop descent p (ap (isEndOf rows columns hs up) e ∙ pit-stop descent)
+    next-pit p e = next-stop (descent fits up) p (ap (isEndOf rows columns hs up) e ∙ pit-stop (descent fits up))
 
     length-end : (p : ℕ) → Vertex (rows * columns) p → isEndOf rows columns hs up p ≡ true → length (walkOf rows columns hs up p) ≡ 1
-    length-end p v e = rw (walk-next descent p v, e)
+    length-end p v e = rw (walk-next (descent fits up) p v, e)
 
     length-more : (p : ℕ) → Vertex (rows * columns) p → isEndOf rows columns hs up p ≡ false
         → length (walkOf rows columns hs up p) ≡ 1 + length (walkOf rows columns hs up (nextOf rows columns hs up p))
-    length-more p v e = rw (walk-next descent p v, e) (omega arith)
+    length-more p v e = rw (walk-next (descent fits up) p v, e) (omega arith)
 
     walk-some : (p : ℕ) → Vertex (rows * columns) p → 1 ≤ length (walkOf rows columns hs up p)
-    walk-some p v = rw (walk-next descent p v) (omega arith)
-
-    pub vertex-next : (p : ℕ) → Vertex (rows * columns) p → Vertex (rows * columns) (nextOf rows columns hs up p)
-    vertex-next p v =
-        either (isEndOf rows columns hs up p) (λ e. subst (Vertex (rows * columns)) (sym (next-stop descent p e)) v) (λ e. next-step descent p v e .vertex)
+    walk-some p v = rw (walk-next (descent fits up) p v) (omega arith)
 
     pub length-low : (p : ℕ) → length (walkOf rows columns hs up p) ≤ 14401
     length-low p = omega (arith, walk-low (toward hs up) (ringOf rows columns hs) (lowestOf (toward hs up)) (rows * columns) p, few fits)
@@ -108,7 +85,7 @@ module _ {rows columns : ℕ} {hs : List ℤ} (fits : Fits rows columns hs) wher
       → Along rows columns hs from (onward at) (entries + 1)
   along-more {from} {at} a h =
       record {
-        vertex = vertex-next fits (at .up) (at .post) (a .vertex);
+        vertex = next-vertex (descent fits (at .up)) (at .post) (a .vertex);
         same = a .same;
         counted = rw (a .same) (omega (arith, a .counted, length-more fits (from .up) (at .post) (a .vertex) (on a h)));
       }

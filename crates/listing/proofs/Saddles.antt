@@ -24,7 +24,7 @@ use Rattle.plot.specs.declared.ring.Ring.{Ring}
 use Rattle.lines.specs.Directed.{after, runsOf, lineOf}
 use Rattle.lines.specs.Runs.{StartsAt, Round}
 use Rattle.lines.proofs.Tabled.{round}
-use Rattle.lines.proofs.Walking.{descent, vertices, fit}
+use Rattle.plot.proofs.Descents.{descent, fit}
 use Rattle.listing.specs.Wrote.{Wrote}
 use Rattle.listing.specs.Lines.{endIn, runLines, Saddle}
 use Rattle.listing.proofs.Writing.{more, within, nothing}
@@ -88,7 +88,7 @@ module _ {rows columns : ℕ} {hs : List ℤ} {up : Bool} {p : ℕ} {ring : Ring
         plain =
             let d = descent (s .fits) up in
             let r = runs-run low (ringOf rows columns hs p) run numbered in
-            rw picked (vertices (s .fits) p _ (s .post) (r .member _ (d .picksMember p (r .some) _ (r .there)) .0))
+            rw picked (d .ringVertex p _ (s .post) (r .member _ (d .picksMember p (r .some) _ (r .there)) .0))
 
         pub vertex : Vertex (length ends) q
         vertex = rw (s .known, length-listOf) plain

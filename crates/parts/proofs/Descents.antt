@@ -2,7 +2,7 @@
 use Prim.Native.Nat.{ℕ, zero, suc, _*_, _≤_, _<_}
 use native.Mathlib.Omega.{arith}
 use mathlib.Core.Path.{_≡_, refl, sym, _∙_, ap}
-use mathlib.Core.Logic.{⊎-elim, inl, inr}
+use mathlib.Core.Logic.{inl, inr}
 use mathlib.Core.Bool.{Bool, true, false, cond}
 use mathlib.Core.List.{List}
 use lib.Dec.{ltb}
@@ -10,26 +10,19 @@ use lib.IntN.{ℤ}
 use lib.ListN.{length}
 use borrow.Author.Tests.{ltb-true, ltb-false}
 use Rattle.surface.specs.Lists.{listOf}
-use Rattle.surface.specs.Plot.{virtualPit, below}
-use Rattle.surface.specs.Edges.{throughLowest}
+use Rattle.surface.specs.Plot.{virtualPit}
 use Rattle.surface.specs.Marks.{ringOf}
-use Rattle.surface.specs.Lines.{isEnd, next, end, lowestOf, nextDown, nextUp, daleAt, hillAt, dalesOf, hillsOf}
+use Rattle.surface.specs.Lines.{isEnd, next, end, lowestOf, daleAt, hillAt, dalesOf, hillsOf}
 use Rattle.surface.proofs.Bools.{either}
 use Rattle.surface.proofs.ListOf.{length-listOf, getD-listOf, listOf-ext}
-use Rattle.surface.proofs.RingEdges.{ring-member}
-use Rattle.surface.proofs.Lowest.{lowest-member}
-use Rattle.surface.proofs.Walks.{Vertex, Descent, next-stop, pit-stop, next-step, end-vertex, end-is-stop}
+use Rattle.plot.proofs.Descents.{next-by, fit, descent, vertex-low}
+use Rattle.surface.proofs.Walks.{next-vertex, Vertex, Descent, next-stop, pit-stop, end-vertex, end-is-stop}
 use Rattle.plot.specs.Fits.{Fits}
 use Rattle.plot.specs.Scan.{toward, nextBy}
-use Rattle.plot.proofs.Extreme.{toward-strict}
-use Rattle.plot.proofs.Rows.{fits-sides, fits-small}
 use Rattle.parts.specs.Paths.{follow, after, endIn, Ends}
 use Rattle.parts.proofs.Shorter.{outside, after-stays}
 
 module _ {n : ℕ} {lower : ℕ → ℕ → Bool} {ring : ℕ → List ℕ} {pick : ℕ → List ℕ → ℕ} (d : Descent n lower ring pick) where
-  pub next-vertex : (p : ℕ) → Vertex n p → Vertex n (next lower ring pick p)
-  next-vertex p v = either (isEnd lower ring pick p) (λ e. rw (next-stop d p e) v) (λ e. next-step d p v e .vertex)
-
   -- the list of next posts
   abbrev nexts : List ℕ
   nexts = listOf (next lower ring pick) n
@@ -43,7 +36,7 @@ module _ {n : ℕ} {lower : ℕ → ℕ → Bool} {ring : ℕ → List ℕ} {pic
     after-end : (m p : ℕ) → Vertex n p → after nexts m p ≡ end lower ring pick m p
     unfolding after end
     after-end zero p v = refl
-    after-end (suc m) p v = rw (follow-next p v) (after-end m (next lower ring pick p) (next-vertex p v))
+    after-end (suc m) p v = rw (follow-next p v) (after-end m (next lower ring pick p) (next-vertex d p v))
 
     end-is : (p : ℕ) → p < n → endIn nexts p ≡ end lower ring pick n p
     end-is p h = rw (length-listOf (next lower ring pick) n) (after-end n p (inl h))
@@ -64,48 +57,23 @@ module _ {n : ℕ} {lower : ℕ → ℕ → Bool} {ring : ℕ → List ℕ} {pic
     ends-are = rw (length-listOf (next lower ring pick) n) (listOf-ext (after nexts n) (end lower ring pick n) n (λ p h. after-end n p (inl h)))
 
 module _ {rows columns : ℕ} {hs : List ℤ} (fits : Fits rows columns hs) where
-  pub few : rows * columns ≤ virtualPit
-  unfolding virtualPit
-  few = omega (arith, fits-small fits)
-
-  pub descent : (up : Bool) → Descent (rows * columns) (toward hs up) (ringOf rows columns hs) (lowestOf (toward hs up))
-  unfolding ringOf
-  descent up =
-      record {
-        order = toward-strict hs up;
-        ringVertex = ring-member (fits-sides fits) (throughLowest (below hs) columns) few;
-        picksMember = λ p q l m. lowest-member (toward hs up) q l m;
-      }
-
-  -- document 01's next down and next up are the descent's
-  pub next-is : (up : Bool) (p : ℕ) → nextBy up rows columns hs p ≡ next (toward hs up) (ringOf rows columns hs) (lowestOf (toward hs up)) p
-  unfolding nextDown nextUp
-  next-is true p = refl
-  next-is false p = refl
-
   names-are : (up : Bool) → listOf (end (toward hs up) (ringOf rows columns hs) (lowestOf (toward hs up)) (rows * columns)) (rows * columns)
       ≡ cond up (hillsOf rows columns hs) (dalesOf rows columns hs)
   unfolding dalesOf daleAt hillsOf hillAt
   names-are true = refl
   names-are false = refl
 
-  -- they fit 16 bits
+  -- next posts fit 16 bits
   pub next-fits : (up : Bool) (p : ℕ) → p < rows * columns → nextBy up rows columns hs p < 65536
-  unfolding virtualPit
-  next-fits up p h =
-      rw (next-is up p)
-      (⊎-elim
-      (λ (k : next (toward hs up) (ringOf rows columns hs) (lowestOf (toward hs up)) p < rows * columns). omega (arith, fits-small fits))
-      (λ (k : next (toward hs up) (ringOf rows columns hs) (lowestOf (toward hs up)) p ≡ virtualPit). omega arith)
-      (next-vertex (descent up) p (inl h)))
+  next-fits up p h = rw (next-by rows columns hs up p) (vertex-low fits _ (next-vertex (descent fits up) p (inl h)))
 
   -- a list filled with them: its paths come to an end, and the ends are the names of the dales, or of the hills
   module _ (up : Bool) {l : List ℕ} (filled : l ≡ listOf (nextBy up rows columns hs) (rows * columns)) where
-    made : l ≡ nexts (descent up)
-    made = filled ∙ listOf-ext (nextBy up rows columns hs) _ (rows * columns) (λ p _. next-is up p)
+    made : l ≡ nexts (descent fits up)
+    made = filled ∙ listOf-ext (nextBy up rows columns hs) _ (rows * columns) (λ p _. next-by rows columns hs up p)
 
     pub filled-ends : Ends l
-    filled-ends = rw made (nexts-end (descent up) few)
+    filled-ends = rw made (nexts-end (descent fits up) (fit fits))
 
     pub filled-parts : listOf (endIn l) (length l) ≡ cond up (hillsOf rows columns hs) (dalesOf rows columns hs)
-    filled-parts = rw made (ends-are (descent up) few ∙ names-are up)
+    filled-parts = rw made (ends-are (descent fits up) (fit fits) ∙ names-are up)

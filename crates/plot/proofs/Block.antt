@@ -21,7 +21,7 @@ use Rattle.plot.specs.Signs.{inside, cells, cornersBy, Room, Inside}
 use Rattle.plot.specs.declared.border.Borders.{Borders}
 use Rattle.plot.specs.declared.sign.Corners.{Corners}
 use Rattle.plot.specs.Scan.{toward, nextBy, lowerOf, step, scan, turn, everyCorner, cornersAbove}
-use Rattle.plot.proofs.Round.{north, south, southEast, northWest, room, inside-bounds, borders-are}
+use Rattle.plot.proofs.Round.{both, north, south, southEast, northWest, room, inside-bounds, borders-are}
 use Rattle.plot.proofs.Extreme.{to-front, up-is, next-is}
 
 module _ (lower : ℕ → ℕ → Bool) (o : StrictTotal lower) where
@@ -349,11 +349,6 @@ module _ {rows columns : ℕ} {hs : List ℤ} (fits : Fits rows columns hs) (p :
 module _ {rows columns : ℕ} {hs : List ℤ} (fits : Fits rows columns hs) (p : ℕ) (post : p < rows * columns) where
   abbrev at : Borders
   at = bordersOf rows columns p
-
-  both : (a b : Bool) → not a && not b ≡ true → (a ≡ false) × (b ≡ false)
-  both true b h = absurd (true≢false (sym h))
-  both false true h = absurd (true≢false (sym h))
-  both false false h = (refl, refl)
 
   -- the posts of the cells that are there
   pub room-cells : Room (length hs) columns p at (cells at)

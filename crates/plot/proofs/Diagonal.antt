@@ -10,6 +10,7 @@ use lib.Signed.{ltZ}
 use borrow.Author.Tests.{eq-eqb, ne-eqb}
 use Rattle.surface.specs.Plot.{height, virtualPit, below}
 use Rattle.surface.specs.Edges.{lowest, lowestOr, throughLowest}
+use Rattle.surface.proofs.Bools.{either}
 use Rattle.surface.proofs.Order.{ltZ-trans}
 use Rattle.plot.proofs.Order.{ltZ-le, below-high}
 
@@ -26,10 +27,6 @@ fallsBy h =
     not (ltZ (h .ne) (h .nw)) && not (ltZ (h .sw) (h .nw)) && not (ltZ (h .se) (h .nw))
     || ltZ (h .se) (h .nw) && ltZ (h .se) (h .ne) && ltZ (h .se) (h .sw)
 
-split : {A : Type 0} (b : Bool) → (b ≡ true → A) → (b ≡ false → A) → A
-split true f g = f refl
-split false f g = g refl
-
 -- the same as `lowest` finds it, one post after the other
 abbrev byTurns : Four → Bool
 byTurns h =
@@ -38,34 +35,34 @@ byTurns h =
 
 turns : (h : Four) → byTurns h ≡ fallsBy h
 turns h =
-    split (ltZ (h .ne) (h .nw))
+    either (ltZ (h .ne) (h .nw))
     (λ ne-nw.
-    split (ltZ (h .sw) (h .ne))
+    either (ltZ (h .sw) (h .ne))
     (λ sw-ne.
-    split (ltZ (h .se) (h .sw))
+    either (ltZ (h .se) (h .sw))
     (λ se-sw.
     let se-ne = ltZ-trans (h .se) (h .sw) (h .ne) se-sw sw-ne in
     let se-nw = ltZ-trans (h .se) (h .ne) (h .nw) se-ne ne-nw in
     simp (ne-nw, sw-ne, se-sw, se-ne, se-nw))
     (λ se-sw. simp (ne-nw, sw-ne, se-sw, and-false)))
     (λ sw-ne.
-    split (ltZ (h .se) (h .ne))
+    either (ltZ (h .se) (h .ne))
     (λ se-ne.
     let se-nw = ltZ-trans (h .se) (h .ne) (h .nw) se-ne ne-nw in
     let se-sw = ltZ-le (h .se) (h .ne) (h .sw) se-ne sw-ne in
     simp (ne-nw, sw-ne, se-sw, se-ne, se-nw))
     (λ se-ne. simp (ne-nw, sw-ne, se-ne, and-false))))
     (λ ne-nw.
-    split (ltZ (h .sw) (h .nw))
+    either (ltZ (h .sw) (h .nw))
     (λ sw-nw.
-    split (ltZ (h .se) (h .sw))
+    either (ltZ (h .se) (h .sw))
     (λ se-sw.
     let se-nw = ltZ-trans (h .se) (h .sw) (h .nw) se-sw sw-nw in
     let se-ne = ltZ-le (h .se) (h .nw) (h .ne) se-nw ne-nw in
     simp (ne-nw, sw-nw, se-sw, se-ne, se-nw))
     (λ se-sw. simp (ne-nw, sw-nw, se-sw, and-false)))
     (λ sw-nw.
-    split (ltZ (h .se) (h .nw))
+    either (ltZ (h .se) (h .nw))
     (λ se-nw.
     let se-ne = ltZ-le (h .se) (h .nw) (h .ne) se-nw ne-nw in
     let se-sw = ltZ-le (h .se) (h .nw) (h .sw) se-nw sw-nw in
@@ -95,15 +92,15 @@ module _ (hs : List ℤ) (a b c d : ℕ) (ab : a < b) (bc : b < c) (cd : c < d) 
   unfolding lowest lowestOr
   found =
       rw (below-high hs a b (omega arith) (omega arith))
-      (split (ltZ (height hs b) (height hs a))
+      (either (ltZ (height hs b) (height hs a))
       (λ ba.
       rw (ba, below-high hs b c (omega arith) (omega arith))
-      (split (ltZ (height hs c) (height hs b))
+      (either (ltZ (height hs c) (height hs b))
       (λ cb. rw (cb, below-high hs c d (omega arith) (omega arith)) (at-inner c (omega arith) cd _))
       (λ cb. rw (cb, below-high hs b d (omega arith) (omega arith)) (at-inner b ab (omega arith) _))))
       (λ ba.
       rw (ba, below-high hs a c (omega arith) (omega arith))
-      (split (ltZ (height hs c) (height hs a))
+      (either (ltZ (height hs c) (height hs a))
       (λ ca. rw (ca, below-high hs c d (omega arith) (omega arith)) (at-inner c (omega arith) cd _))
       (λ ca. rw (ca, below-high hs a d (omega arith) (omega arith)) (at-outer (ltZ (height hs d) (height hs a)))))))
 

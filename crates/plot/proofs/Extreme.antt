@@ -13,6 +13,7 @@ use Rattle.surface.specs.Plot.{virtualPit, below, reversed}
 use Rattle.surface.specs.Edges.{lowest, lowestOr, Place, place, members, places, ring, top, bottom, first, last, isBorder, throughLowest}
 use Rattle.surface.specs.Marks.{ringOf}
 use Rattle.surface.specs.Lines.{isEnd, next, lowestOf, nextDown, nextUp}
+use Rattle.surface.proofs.Bools.{either}
 use Rattle.surface.proofs.Order.{StrictTotal, reversed-strict, below-strict, pit-below}
 use Rattle.plot.specs.declared.border.Borders.{Borders}
 use Rattle.plot.specs.declared.sign.Corners.{Corners}
@@ -21,10 +22,6 @@ use Rattle.plot.specs.Borders.{bordersOf}
 use Rattle.plot.specs.Signs.{cornersOf, cornersBy, inside, Inside}
 use Rattle.plot.proofs.Round.{off, north, no-pit, borders-are, corners-are}
 use Rattle.plot.specs.Scan.{toward, nextBy, lowerOf, step, scan, turn}
-
-split : {A : Type 0} (b : Bool) → (b ≡ true → A) → (b ≡ false → A) → A
-split true f g = f refl
-split false f g = g refl
 
 flip : (t : Bool) (a b : ℕ) → cond (not t) b a ≡ cond t a b
 flip true a b = refl
@@ -43,19 +40,19 @@ module _ (lower : ℕ → ℕ → Bool) where
 
   module _ (o : StrictTotal lower) where
     not-lower : (x a b : ℕ) → lower a x ≡ false → lower b x ≡ true → lower a b ≡ false
-    not-lower x a b h k = split (lower a b) (λ e. absurd (true≢false (sym (o .trans a b x e k) ∙ h))) (λ e. e)
+    not-lower x a b h k = either (lower a b) (λ e. absurd (true≢false (sym (o .trans a b x e k) ∙ h))) (λ e. e)
 
     same : (a b : ℕ) → lowerOf lower a b ≡ lowerOf lower b a
-    same a b = split (eqb a b) (λ e. rw (eqb-true a b e)) (λ e. rw (o .other a b (eqb-false a b e)) (flip (lower a b) a b))
+    same a b = either (eqb a b) (λ e. rw (eqb-true a b e)) (λ e. rw (o .other a b (eqb-false a b e)) (flip (lower a b) a b))
 
     swap : (x a b : ℕ) → lowerOf lower (lowerOf lower x a) b ≡ lowerOf lower (lowerOf lower x b) a
     swap x a b =
-        split (lower a x)
+        either (lower a x)
         (λ ax.
-        split (lower b x)
+        either (lower b x)
         (λ bx. rw (ax, bx) (same a b))
         (λ bx. rw (ax, bx, ax, not-lower x b a bx ax)))
-        (λ ax. split (lower b x) (λ bx. rw (ax, bx, not-lower x a b ax bx)) (λ bx. rw (ax, bx, ax)))
+        (λ ax. either (lower b x) (λ bx. rw (ax, bx, not-lower x a b ax bx)) (λ bx. rw (ax, bx, ax)))
 
     swap-steps : (x : ℕ) (y z : Place) → step lower (step lower x y) z ≡ step lower (step lower x z) y
     swap-steps x y z = go (y .taken) (z .taken)
@@ -77,14 +74,14 @@ module _ (lower : ℕ → ℕ → Bool) where
     unfolding filter lowestOr
     filtered p x [] h = refl
     filtered p x (y ∷ l) h =
-        split (lower y p)
-        (λ e. rw e (filtered p (lowerOf lower x y) l (λ z k. split (lower y x) (λ a. rw a (not-lower p z y k e)) (λ a. rw a (h z k)))))
+        either (lower y p)
+        (λ e. rw e (filtered p (lowerOf lower x y) l (λ z k. either (lower y x) (λ a. rw a (not-lower p z y k e)) (λ a. rw a (h z k)))))
         (λ e. rw (e, h y e) (filtered p x l h))
 
     ends : (p : ℕ) (l : List ℕ) → let low : ℕ → Bool = λ q. lower q p in cond (not (any low l)) p (lowest lower (filter low l)) ≡ lowestOr lower p (filter low l)
     unfolding any filter lowest lowestOr
     ends p [] = refl
-    ends p (y ∷ l) = split (lower y p) (λ e. rw (e, e)) (λ e. rw e (ends p l))
+    ends p (y ∷ l) = either (lower y p) (λ e. rw (e, e)) (λ e. rw e (ends p l))
 
     pub next-scan : (p : ℕ) (places : List Place) → (p ≡ virtualPit → ⊥) → let ringOf : ℕ → List ℕ = λ _. members places in next lower ringOf (lowestOf lower) p ≡ scan lower p places
     unfolding next isEnd

@@ -4,6 +4,7 @@ pub mod Order
 pub mod Diagonal
 pub mod Round
 pub mod Extreme
+pub mod Descents
 pub mod Block
 pub mod Keyed
 pub mod Sizes

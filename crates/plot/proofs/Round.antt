@@ -129,12 +129,21 @@ apart-members p [] a q m e = List·Memᴰ·not-nil m
 apart-members p (y ∷ l) a q m e =
     ⊎-elim (λ k. apart-one p (y .taken) (y .member) (a .0) k e) (λ k. apart-members p l (a .1) q k e) (List·Memᴰ·append-cases (keep (y .taken) (y .member)) m)
 
+-- a plot has at most 14,400 posts
 pub few : {rows columns : ℕ} {hs : List ℤ} → Fits rows columns hs → rows * columns ≤ 14400
 few fits = mul-le-mul (fits .rowsHigh) (fits .columnsHigh)
 
+pub fits-sides : {rows columns : ℕ} {hs : List ℤ} → Fits rows columns hs → Sides rows columns
+fits-sides fits = record { tall = fits .rowsLow; wide = fits .columnsLow }
+
+pub both : (a b : Bool) → not a && not b ≡ true → (a ≡ false) × (b ≡ false)
+both true b h = absurd (true≢false (sym h))
+both false true h = absurd (true≢false (sym h))
+both false false h = (refl, refl)
+
 module _ {rows columns : ℕ} {hs : List ℤ} (fits : Fits rows columns hs) (p : ℕ) (post : p < rows * columns) where
-  pub sides : Sides rows columns
-  sides = record { tall = omega arith; wide = omega arith }
+  sides : Sides rows columns
+  sides = fits-sides fits
 
   pub no-pit : p ≡ virtualPit → ⊥
   unfolding virtualPit
@@ -242,23 +251,17 @@ module _ {rows columns : ℕ} {hs : List ℤ} (fits : Fits rows columns hs) (p :
     )
 
   -- the cells round p that are there
-  module _ where
-    both : (a b : Bool) → not a && not b ≡ true → (a ≡ false) × (b ≡ false)
-    both true b h = absurd (true≢false (sym h))
-    both false true h = absurd (true≢false (sym h))
-    both false false h = (refl, refl)
+  pub cell-ne : not (top rows columns p) && not (last rows columns p) ≡ true → (columns ≤ p) × (p - columns + columns + 1 < length hs)
+  cell-ne k = let h = both (top rows columns p) (last rows columns p) k in omega (arith, north (h .0), east-post sides p post (h .1))
 
-    pub cell-ne : not (top rows columns p) && not (last rows columns p) ≡ true → (columns ≤ p) × (p - columns + columns + 1 < length hs)
-    cell-ne k = let h = both (top rows columns p) (last rows columns p) k in omega (arith, north (h .0), east-post sides p post (h .1))
+  pub cell-se : not (last rows columns p) && not (bottom rows columns p) ≡ true → (0 ≤ p) × (p - 0 + columns + 1 < length hs)
+  cell-se k = let h = both (last rows columns p) (bottom rows columns p) k in omega (arith, southEast (h .0) (h .1))
 
-    pub cell-se : not (last rows columns p) && not (bottom rows columns p) ≡ true → (0 ≤ p) × (p - 0 + columns + 1 < length hs)
-    cell-se k = let h = both (last rows columns p) (bottom rows columns p) k in omega (arith, southEast (h .0) (h .1))
+  pub cell-sw : not (bottom rows columns p) && not (first rows columns p) ≡ true → (1 ≤ p) × (p - 1 + columns + 1 < length hs)
+  cell-sw k = let h = both (bottom rows columns p) (first rows columns p) k in omega (arith, south (h .0), not-first sides p (h .1))
 
-    pub cell-sw : not (bottom rows columns p) && not (first rows columns p) ≡ true → (1 ≤ p) × (p - 1 + columns + 1 < length hs)
-    cell-sw k = let h = both (bottom rows columns p) (first rows columns p) k in omega (arith, south (h .0), not-first sides p (h .1))
-
-    pub cell-nw : not (first rows columns p) && not (top rows columns p) ≡ true → (columns + 1 ≤ p) × (p - (columns + 1) + columns + 1 < length hs)
-    cell-nw k = let h = both (first rows columns p) (top rows columns p) k in omega (arith, northWest (h .0) (h .1))
+  pub cell-nw : not (first rows columns p) && not (top rows columns p) ≡ true → (columns + 1 ≤ p) × (p - (columns + 1) + columns + 1 < length hs)
+  cell-nw k = let h = both (first rows columns p) (top rows columns p) k in omega (arith, northWest (h .0) (h .1))
 
   -- document 01's mark of p, by its signs, and by its borders and corners
   pub mark-by-signs : markAt rows columns hs p ≡ markOfSigns (signs rows columns (throughLowest (below hs) columns) (λ q. below hs q p) p)

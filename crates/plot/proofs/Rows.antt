@@ -1,7 +1,7 @@
 -- The posts of a row that are on no border.
 use Prim.Native.Nat.{ℕ, _+_, _-_, _*_, _≤_, _<_}
 use native.Mathlib.Omega.{arith}
-use native.Mathlib.Nat.{mul-le-mul, mul-le-mul-right, suc-mul, add-mul, one-mul}
+use native.Mathlib.Nat.{mul-le-mul-right, suc-mul, add-mul, one-mul}
 use mathlib.Core.Path.{_≡_, refl, _∙_, ap}
 use mathlib.Core.Bool.{Bool, false}
 use mathlib.Core.List.{List}
@@ -12,10 +12,8 @@ use Rattle.surface.specs.Edges.{isBorder, throughLowest}
 use Rattle.surface.proofs.Grid.{Sides, row-fits, column-is, top-false, bottom-false, first-false, last-false}
 use Rattle.plot.specs.Fits.{Fits}
 use Rattle.plot.specs.Signs.{Inside}
+use Rattle.plot.proofs.Round.{few, fits-sides}
 use Rattle.plot.specs.Rows.{Falls, Between, Inner}
-
-pub fits-sides : {rows columns : ℕ} {hs : List ℤ} → Fits rows columns hs → Sides rows columns
-fits-sides f = record { tall = f .rowsLow; wide = f .columnsLow }
 
 module _ {rows columns : ℕ} {hs : List ℤ} {base : ℕ} (fits : Fits rows columns hs) (i : Between rows columns base) (c : ℕ) (low : 1 ≤ c) (high : c + 1 < columns) where
   s : Sides rows columns
@@ -49,10 +47,6 @@ inner-inside {rows} {columns} {hs} i c h k =
     falls : ℕ → Bool
     falls = throughLowest (below hs) columns
 
--- a plot has at most 14,400 posts
-pub fits-small : {rows columns : ℕ} {hs : List ℤ} → Fits rows columns hs → rows * columns ≤ 14400
-fits-small f = mul-le-mul {n₂ = 120} {m₂ = 120} (f .rowsHigh) (f .columnsHigh)
-
 -- row r of a plot, and where the rows round it start
 pub row-room : {rows columns : ℕ} (r : ℕ) → 1 ≤ r → r + 1 < rows → (columns ≤ r * columns) × (r * columns + columns + columns ≤ rows * columns)
 row-room {rows} {columns} r h k = (
@@ -63,7 +57,7 @@ row-room {rows} {columns} r h k = (
 pub row-between : {rows columns : ℕ} {hs : List ℤ} (r : ℕ) → Fits rows columns hs → 1 ≤ r → r + 1 < rows → Between rows columns (r * columns)
 row-between r f h k =
     let m = row-room r h k in
-    record { r = r; start = refl; under = m .0; room = m .1; small = fits-small f }
+    record { r = r; start = refl; under = m .0; room = m .1; small = few f }
 
 pub row-inner : {rows columns : ℕ} {hs : List ℤ} {above here : List Bool} (r : ℕ) → Fits rows columns hs → 1 ≤ r → r + 1 < rows
     → Falls hs columns (r * columns - columns) above → Falls hs columns (r * columns) here → Inner rows columns hs (r * columns) above here

@@ -5,8 +5,8 @@ use native.Mathlib.Omega.{arith}
 use mathlib.Core.Path.{_≡_, _∙_, ap}
 use mathlib.Core.Bool.{Bool, true, false, not, _&&_}
 use mathlib.Core.List.{List}
-use borrow.Author.Tests.{leb-true, ltb-true, ltb-false, eqb-true, eq-eqb, lt-ltb, le-ltb, not-false}
-use lib.Dec.{leb, ltb, eqb}
+use borrow.Author.Tests.{ltb-true, ltb-false, eqb-true, eq-eqb, lt-ltb, le-ltb, not-false}
+use lib.Dec.{ltb, eqb}
 use lib.IntN.{ℤ}
 use lib.ListN.{length, getD}
 use Rattle.surface.specs.Lists.{all, firstNot}
@@ -16,6 +16,7 @@ use Rattle.surface.specs.Marks.{ringOf, markAt}
 use Rattle.surface.specs.SurveyFile.{statedCount, countFor, fileSize, isTenths, tenthsOf}
 use Rattle.surface.specs.Refusals.{surveyVerdict, reshootVerdict, lineVerdict, partsVerdict, readVerdict, writeVerdict}
 use Rattle.surface.proofs.Bools.{and-left, and-right, or-left, or-right}
+use Rattle.surface.proofs.Grid.{side-to}
 use Rattle.surface.proofs.FirstNot.{firstNot-le, ranged-all, all-firstNot}
 use Rattle.surface.proofs.Verdicts.{accepted-clear, clear-accepted}
 use Rattle.surface.proofs.SurveyFile.{length-tenthsOf}
@@ -31,12 +32,9 @@ none : (isIn : ℤ → Bool) (zs : List ℤ) → ltb (firstNot isIn zs) (length 
 none isIn zs e = omega (arith, firstNot-le isIn zs, ltb-false (firstNot isIn zs) (length zs) e)
 
 -- a plot has at most 120 rows, 120 columns and 14,400 posts
-side-low : (n : ℕ) → isSide n ≡ true → n ≤ 120
-side-low n e = leb-true n 120 (and-right (leb 2 n) (leb n 120) e)
-
 pub sides-low : (rows columns : ℕ) → (isSide rows && isSide columns) ≡ true → (rows ≤ 120) × (columns ≤ 120)
 sides-low rows columns e =
-    (side-low rows (and-left (isSide rows) (isSide columns) e), side-low columns (and-right (isSide rows) (isSide columns) e))
+    (side-to rows (and-left (isSide rows) (isSide columns) e), side-to columns (and-right (isSide rows) (isSide columns) e))
 
 pub posts-low : (rows columns : ℕ) → (isSide rows && isSide columns) ≡ true → rows * columns ≤ 14400
 posts-low rows columns e =

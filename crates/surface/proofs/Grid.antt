@@ -18,7 +18,7 @@ pub record Sides (rows columns : ℕ) : Type 0 where
 side-from : (n : ℕ) → isSide n ≡ true → 2 ≤ n
 side-from n h = leb-true 2 n (and-eq-true-iff (leb 2 n) (leb n 120) .0 h .0)
 
-side-to : (n : ℕ) → isSide n ≡ true → n ≤ 120
+pub side-to : (n : ℕ) → isSide n ≡ true → n ≤ 120
 side-to n h = leb-true n 120 (and-eq-true-iff (leb 2 n) (leb n 120) .0 h .1)
 
 pub sides : (rows columns : ℕ) → isSide rows ≡ true → isSide columns ≡ true → Sides rows columns

@@ -15,7 +15,7 @@ use Rattle.surface.specs.Marks.{mark, ringOf, markAt, marksOf, peaks, pi
 use Rattle.surface.specs.Lines.{isEnd, next, end, lowestOf, nextDown, daleAt, hillAt, OnePiece}
 use Rattle.surface.specs.Demand.{EdgeOf, IsPit, IsPeak}
 use Rattle.surface.proofs.Grid.{Sides, sides, plot-fits}
-use Rattle.surface.proofs.Order.{below-strict, reversed-strict, pit-below, not-below-pit}
+use Rattle.surface.proofs.Order.{StrictTotal, below-strict, reversed-strict, pit-below, not-below-pit}
 use Rattle.surface.proofs.RingEdges.{edge-sym, ring-edge, ring-member, ring-other, ring-pit}
 use Rattle.surface.proofs.Lowest.{lowest-member, lowest-least}
 use Rattle.surface.proofs.Runs.{mark-one, mark-two}
@@ -24,6 +24,17 @@ use Rattle.surface.proofs.Balance.{balance}
 use Rattle.surface.proofs.Walks.{Vertex, Descent, next-step, pit-stop, end-stop, end-next, end-is-stop, end-vertex, end-inside, member-filter, member-any}
 use Rattle.surface.proofs.Pieces.{one-piece}
 use Rattle.surface.proofs.Accepted.{Plotted}
+
+-- to go to the lowest neighbour, in any order, is a descent; document 01's, downward and upward, are two
+pub lowest-descent : {rows columns : ℕ} → Sides rows columns → rows * columns ≤ virtualPit → (hs : List ℤ) {lower : ℕ → ℕ → Bool} → StrictTotal lower
+    → Descent (rows * columns) lower (ringOf rows columns hs) (lowestOf lower)
+unfolding ringOf
+lowest-descent {rows} {columns} s fit hs {lower} o =
+    record {
+      order = o;
+      ringVertex = ring-member s (throughLowest (below hs) columns) fit;
+      picksMember = λ p q l m. lowest-member lower q l m;
+    }
 
 module _ (rows columns : ℕ) (hs : List ℤ) (plot : Plotted rows columns hs) where
   pub theSides : Sides rows columns
@@ -35,20 +46,11 @@ module _ (rows columns : ℕ) (hs : List ℤ) (plot : Plotted rows columns hs) w
   pub not-pit : (p : ℕ) → p < rows * columns → p ≡ virtualPit → ⊥
   not-pit p h e = omega (arith, theFit)
 
-  ring-vertex : (p q : ℕ) → p < rows * columns → List·Memᴰ q (ringOf rows columns hs p) → Vertex (rows * columns) q
-  unfolding ringOf
-  ring-vertex p q = ring-member theSides (throughLowest (below hs) columns) theFit p q
-
   pub down : Descent (rows * columns) (below hs) (ringOf rows columns hs) (lowestOf (below hs))
-  down = record { order = below-strict hs; ringVertex = ring-vertex; picksMember = λ p q l m. lowest-member (below hs) q l m }
+  down = lowest-descent theSides theFit hs (below-strict hs)
 
   pub up : Descent (rows * columns) (reversed (below hs)) (ringOf rows columns hs) (lowestOf (reversed (below hs)))
-  up =
-      record {
-        order = reversed-strict (below-strict hs);
-        ringVertex = ring-vertex;
-        picksMember = λ p q l m. lowest-member (reversed (below hs)) q l m;
-      }
+  up = lowest-descent theSides theFit hs (reversed-strict (below-strict hs))
 
   abbrev downEnd : ℕ → Bool
   downEnd = isEnd (below hs) (ringOf rows columns hs) (lowestOf (below hs))

@@ -134,6 +134,9 @@ module _ {n : ℕ} {lower : ℕ → ℕ → Bool} {ring : ℕ → List ℕ} {pic
   end-inside inside keeps (suc m) p i =
       end-inside inside keeps m (go-on p) (either (stop p) (λ e. subst inside (sym (next-stop p e)) i) (λ e. keeps p i e))
 
+  pub next-vertex : (p : ℕ) → Vertex n p → Vertex n (next lower ring pick p)
+  next-vertex p v = either (isEnd lower ring pick p) (λ e. rw (next-stop p e) v) (λ e. next-step p v e .vertex)
+
   pub end-vertex : (m p : ℕ) → Vertex n p → Vertex n (end lower ring pick m p)
   end-vertex = end-inside (Vertex n) (λ p v e. next-step p v e .vertex)
 

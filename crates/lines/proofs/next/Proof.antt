@@ -7,7 +7,8 @@ use borrow.Author.Tests.{ne-eqb}
 use Rattle.surface.specs.Refusals.{nextVerdict}
 use Rattle.surface.proofs.Verdicts.{none-left}
 use Rattle.lines.specs.declared.walk.Walk.{Walk}
-use Rattle.lines.proofs.Walking.{vertex-low, vertex-next}
+use Rattle.surface.proofs.Walks.{next-vertex}
+use Rattle.plot.proofs.Descents.{descent, vertex-low}
 use borrow.Author.Needs.{needs}
 use Rattle.lines.proofs.next.Statement.{statement}
 use Rattle.lines.proofs.next.Tie as tie
@@ -27,7 +28,7 @@ cast-t12 c =
     let e = c .before .before in
     let s = e .before .before .before .args in
     let f = e .before .before .placed .ensures .levelled (e .if1 .left) in
-    omega (arith, vertex-low (f .0 .fits) _ (vertex-next (f .0 .fits) (s .up) (s .post) (inl (f .1))), ap (λ (w : Walk). w .post) (c .before .next .ensures))
+    omega (arith, vertex-low (f .0 .fits) _ (next-vertex (descent (f .0 .fits) (s .up)) (s .post) (inl (f .1))), ap (λ (w : Walk). w .post) (c .before .next .ensures))
 
 returns-2 : tie.Need-returns-2
 unfolding nextVerdict

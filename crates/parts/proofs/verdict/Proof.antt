@@ -1,6 +1,6 @@
 -- `parts::verdict` meets its contract, return by return.
 use native.Mathlib.Omega.{arith}
-use Rattle.plot.proofs.Rows.{fits-small}
+use Rattle.plot.proofs.Round.{few}
 use Rattle.parts.proofs.Outcome.{sized-refused, lists-refused, lists-passed}
 use borrow.Author.Needs.{needs}
 use Rattle.parts.proofs.verdict.Statement.{statement}
@@ -18,7 +18,7 @@ returns-2 c = lists-refused (c .before .before .sized .ensures) _ _ (c .before .
 ranged-requires : tie.Need-ranged-requires
 ranged-requires c κs =
     let f = c .before .before .sized .ensures .fits (c .before .if1 .left) in
-    omega (arith, f .size, fits-small f)
+    omega (arith, f .size, few f)
 
 returns-3 : tie.Need-returns-3
 returns-3 c = lists-passed (c .before .before .before .sized .ensures) _ _ (c .before .before .if1 .left) (c .before .if2 .left) _ (c .ranged .ensures)

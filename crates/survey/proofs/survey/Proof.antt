@@ -9,7 +9,7 @@ use Rattle.surface.specs.declared.Answer.{Answer}
 use Rattle.surface.proofs.Accepted.{Plotted, survey-plotted}
 use Rattle.surface.proofs.MarkCalls.{survey-refused, survey-kept, survey-served, survey-filled}
 use Rattle.plot.proofs.Sizes.{plotted-fits}
-use Rattle.plot.proofs.Rows.{fits-small}
+use Rattle.plot.proofs.Round.{few}
 use Rattle.survey.proofs.survey.Statement.{statement}
 use Rattle.survey.proofs.survey.Tie as tie
 
@@ -51,7 +51,7 @@ count-requires : tie.Need-count-requires
 count-requires c κs =
     let m = c .before .before .before in
     let a = accepted (m .before .before) in
-    omega (arith, m .mark-plot .kept .1 .1 .1 .0, a .1, fits-small (plotted-fits _ _ _ (a .0)))
+    omega (arith, m .mark-plot .kept .1 .1 .1 .0, a .1, few (plotted-fits _ _ _ (a .0)))
 
 same-length-2 : tie.Need-same-length-2
 same-length-2 c = search needs

@@ -10,9 +10,10 @@ use Rattle.surface.proofs.Order.{rank}
 use Rattle.surface.proofs.ListOf.{Filled, filled-more, filled-length}
 use Rattle.plot.specs.Scan.{toward}
 use Rattle.plot.proofs.Round.{few}
+use Rattle.plot.proofs.Descents.{vertex-low}
 use Rattle.lines.specs.declared.walk.Walk.{Walk}
 use Rattle.lines.specs.Directed.{nextOf, walkOf, entryOf}
-use Rattle.lines.proofs.Walking.{vertex-low, length-low, Along, along-none, along-more, along-sinks, along-low, along-end, entry-more, filled-first}
+use Rattle.lines.proofs.Walking.{length-low, Along, along-none, along-more, along-sinks, along-low, along-end, entry-more, filled-first}
 use Rattle.lines.proofs.line.write_entries.Statement.{statement}
 use Rattle.lines.proofs.line.write_entries.Tie as tie
 

@@ -10,7 +10,8 @@ use Rattle.plot.specs.Fits.{Fits}
 use Rattle.plot.specs.Stores.{stores}
 use Rattle.plot.specs.Rows.{Falls}
 use Rattle.plot.proofs.Stores.{stores-join}
-use Rattle.plot.proofs.Rows.{fits-small, fits-two, row-room, row-inner}
+use Rattle.plot.proofs.Round.{few}
+use Rattle.plot.proofs.Rows.{fits-two, row-room, row-inner}
 use Rattle.survey.proofs.fill.mark_rows.Statement.{statement}
 use Rattle.survey.proofs.fill.mark_rows.Tie as tie
 
@@ -41,7 +42,7 @@ slice-aggregate-falls-row : tie.Need-slice-aggregate-falls-row Inv-loop μ-loop
 slice-aggregate-falls-row c = search needs
 
 falls-row-requires : tie.Need-falls-row-requires Inv-loop μ-loop
-falls-row-requires c κs = let f = c .before .before .pre .0 in omega (arith, fits-two f, fits-small f)
+falls-row-requires c κs = let f = c .before .before .pre .0 in omega (arith, fits-two f, few f)
 
 loop-holds : tie.Need-loop-holds Inv-loop μ-loop
 unfolding stores
@@ -54,16 +55,16 @@ add-loop : tie.Need-add-loop Inv-loop μ-loop
 add-loop c = omega arith
 
 mul-falls-row : tie.Need-mul-falls-row Inv-loop μ-loop
-mul-falls-row c = omega (arith, room c, fits-small (fits (c .before)))
+mul-falls-row c = omega (arith, room c, few (fits (c .before)))
 
 slice-aggregate-falls-row-2 : tie.Need-slice-aggregate-falls-row-2 Inv-loop μ-loop
 slice-aggregate-falls-row-2 c = search needs
 
 falls-row-requires-2 : tie.Need-falls-row-requires-2 Inv-loop μ-loop
-falls-row-requires-2 c κs = let f = fits (c .before .before) in omega (arith, f, room (c .before), fits-small f)
+falls-row-requires-2 c κs = let f = fits (c .before .before) in omega (arith, f, room (c .before), few f)
 
 mul-mark-row : tie.Need-mul-mark-row Inv-loop μ-loop
-mul-mark-row c = omega (arith, room (c .before .before .before), fits-small (fits (c .before .before .before .before)))
+mul-mark-row c = omega (arith, room (c .before .before .before), few (fits (c .before .before .before .before)))
 
 slice-aggregate-mark-row : tie.Need-slice-aggregate-mark-row Inv-loop μ-loop
 slice-aggregate-mark-row c = search needs

@@ -7,7 +7,7 @@ use borrow.Author.Needs.{needs}
 use Rattle.surface.specs.Marks.{markAt}
 use Rattle.surface.specs.Plot as Plot
 use Rattle.surface.proofs.Grid.{column-lt, row-lt}
-use Rattle.plot.proofs.Rows.{fits-sides, fits-small}
+use Rattle.plot.proofs.Round.{few, fits-sides}
 use Rattle.survey.proofs.Painted.{Painted, painted-none, painted-more, painted-redrawn}
 use Rattle.survey.proofs.redraw.redraw.Statement.{statement}
 use Rattle.survey.proofs.redraw.redraw.Tie as tie
@@ -34,7 +34,7 @@ room c =
     let r = c .before .loop .r in
     let k = s .args .columns in
     let e : r + 1 ≤ s .args .rows = omega arith in
-    (omega (arith, mul-le-mul-right k e, add-mul r 1 k, one-mul k), fits-small (s .pre .0))
+    (omega (arith, mul-le-mul-right k e, add-mul r 1 k, one-mul k), few (s .pre .0))
 
 div-row : tie.Need-div-row Inv-loop μ-loop
 div-row c = omega (arith, c .before .pre .0)

@@ -7,7 +7,7 @@ use mathlib.Core.Bool.{not}
 use Rattle.surface.specs.Refusals.{surveyVerdict}
 use Rattle.surface.specs.Calls.{answer}
 use Rattle.surface.proofs.Verdicts.{row-holds, row-passed}
-use Rattle.plot.proofs.Rows.{fits-small}
+use Rattle.plot.proofs.Round.{few}
 use Rattle.survey.proofs.verdict.survey_verdict.Statement.{statement}
 use Rattle.survey.proofs.verdict.survey_verdict.Tie as tie
 
@@ -29,7 +29,7 @@ returns-2 c =
 ranged-requires : tie.Need-ranged-requires
 ranged-requires c κs =
     let f = c .before .before .sized .ensures .fits (c .before .if1 .left) in
-    omega (arith, f .size, fits-small f)
+    omega (arith, f .size, few f)
 
 returns-3 : tie.Need-returns-3
 unfolding surveyVerdict

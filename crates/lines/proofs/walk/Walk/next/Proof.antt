@@ -1,20 +1,10 @@
 -- The virtual pit stays; from a post the leaf of next.
 use Prim.Native.Nat.{ℕ}
-use mathlib.Core.Path.{_≡_, refl, sym, ap, _∙_}
-use mathlib.Core.Bool.{Bool, true, false}
-use mathlib.Core.List.{List}
-use lib.IntN.{ℤ}
-use Rattle.surface.specs.Lines.{nextDown, nextUp}
-use Rattle.plot.specs.Scan.{nextBy}
-use Rattle.lines.specs.Directed.{nextOf}
+use mathlib.Core.Path.{sym, ap, _∙_}
+use Rattle.plot.proofs.Descents.{next-by}
 use Rattle.lines.proofs.Walking.{next-pit, vertex-post}
 use Rattle.lines.proofs.walk.Walk.next.Statement.{statement}
 use Rattle.lines.proofs.walk.Walk.next.Tie as tie
-
-next-by : (rows columns : ℕ) (hs : List ℤ) (up : Bool) (p : ℕ) → nextBy up rows columns hs p ≡ nextOf rows columns hs up p
-unfolding nextDown nextUp
-next-by rows columns hs true p = refl
-next-by rows columns hs false p = refl
 
 returns : tie.Need-returns
 returns c =

@@ -1,0 +1,37 @@
+-- Next down and next up are a descent in the height order and one in it reversed: what walks and lists of next posts rest on.
+use Prim.Native.Nat.{ℕ, _*_, _≤_, _<_}
+use native.Mathlib.Omega.{arith}
+use mathlib.Core.Path.{_≡_, refl}
+use mathlib.Core.Logic.{⊎-elim}
+use mathlib.Core.Bool.{Bool, true, false}
+use mathlib.Core.List.{List}
+use lib.IntN.{ℤ}
+use Rattle.surface.specs.Plot.{virtualPit}
+use Rattle.surface.specs.Marks.{ringOf}
+use Rattle.surface.specs.Lines.{next, lowestOf, nextDown, nextUp}
+use Rattle.surface.proofs.Walks.{Vertex, Descent}
+use Rattle.surface.proofs.Network.{lowest-descent}
+use Rattle.plot.specs.Fits.{Fits}
+use Rattle.plot.specs.Scan.{toward, nextBy}
+use Rattle.plot.proofs.Round.{few, fits-sides}
+use Rattle.plot.proofs.Extreme.{toward-strict}
+
+-- document 01's next down and next up
+pub next-by : (rows columns : ℕ) (hs : List ℤ) (up : Bool) (p : ℕ) → nextBy up rows columns hs p ≡ next (toward hs up) (ringOf rows columns hs) (lowestOf (toward hs up)) p
+unfolding nextDown nextUp
+next-by rows columns hs true p = refl
+next-by rows columns hs false p = refl
+
+module _ {rows columns : ℕ} {hs : List ℤ} (fits : Fits rows columns hs) where
+  -- no post has the virtual pit's number
+  pub fit : rows * columns ≤ virtualPit
+  unfolding virtualPit
+  fit = omega (arith, few fits)
+
+  pub descent : (up : Bool) → Descent (rows * columns) (toward hs up) (ringOf rows columns hs) (lowestOf (toward hs up))
+  descent up = lowest-descent (fits-sides fits) fit hs (toward-strict hs up)
+
+  -- a vertex fits 16 bits
+  pub vertex-low : (p : ℕ) → Vertex (rows * columns) p → p < 65536
+  unfolding virtualPit
+  vertex-low p v = ⊎-elim (λ (h : p < rows * columns). omega (arith, few fits)) (λ (h : p ≡ virtualPit). omega arith) v
