@@ -1,0 +1,16 @@
+-- The mark less 2. (Written out, and not left to a search, so that a wrong multiplicity is refused here.)
+use native.Mathlib.Omega.{arith}
+use Rattle.survey.proofs.tally.times.Statement.{statement}
+use Rattle.survey.proofs.tally.times.Tie as tie
+
+returns : tie.Need-returns
+returns c = omega arith
+
+cast-result : tie.Need-cast-result
+cast-result c = omega arith
+
+returns-2 : tie.Need-returns-2
+returns-2 c = omega arith
+
+pub times-spec : {M : Type 1} → statement M
+times-spec = tie.close (tie.spec returns cast-result returns-2)
