@@ -111,50 +111,58 @@ static int32_t heights[SN_MAX_POSTS], held[SN_MAX_POSTS];
 static uint8_t marks[SN_MAX_POSTS], file[SN_MAX_FILE];
 static uint16_t dales[SN_MAX_POSTS], hills[SN_MAX_POSTS], line[SN_MAX_LINE];
 
+/* The sum of an answer's numbers. */
+static uint32_t of_answer(sn_answer a)
+{
+    return a.code + a.place;
+}
+
+static uint32_t of_counts(sn_counts a)
+{
+    return a.code + a.place + a.peaks + 3 * a.pits + 5 * a.saddles;
+}
+
+static uint32_t of_next(sn_next a)
+{
+    return a.code + a.place + a.post;
+}
+
+static uint32_t of_entries(sn_entries a)
+{
+    return a.code + a.place + a.count;
+}
+
+static uint32_t of_size(sn_size a)
+{
+    return a.code + a.place + a.rows + a.columns;
+}
+
 /* Calls once; gives the sum of the answer's numbers. */
 static uint32_t once(int build, int name, uint32_t turn)
 {
     const calls *b = &builds[build];
     size_t n = posts, file_size = SN_FILE_SIZE(side, side);
+    uint32_t p = turn * 7919 % posts;
 
     switch (name) {
-    case SURVEY: {
-        sn_counts a = b->survey(side, side, heights, n, marks, n);
-        return a.code + a.place + a.peaks + 3 * a.pits + 5 * a.saddles;
-    }
-    case DALES_AND_HILLS: {
-        sn_answer a = b->dales_and_hills(side, side, heights, n, dales, n, hills, n);
-        return a.code + a.place;
-    }
-    case RESHOOT: {
-        uint32_t p = turn * 7919 % posts;
-        sn_answer a = b->reshoot(side, side, held, n, marks, n, p, heights[(p + turn) % posts]);
-        return a.code + a.place;
-    }
-    case NEXT_DOWN: {
-        sn_next a = b->next_down(side, side, heights, n, turn * 7919 % posts);
-        return a.code + a.place + a.post;
-    }
-    case NEXT_UP: {
-        sn_next a = b->next_up(side, side, heights, n, turn * 7919 % posts);
-        return a.code + a.place + a.post;
-    }
-    case THALWEG: {
-        sn_entries a = b->thalweg(side, side, heights, n, post, run, line, SN_MAX_LINE);
-        return a.code + a.place + a.count;
-    }
-    case RIDGE: {
-        sn_entries a = b->ridge(side, side, heights, n, post, run, line, SN_MAX_LINE);
-        return a.code + a.place + a.count;
-    }
-    case READ: {
-        sn_size a = b->read_survey(file, file_size, held, n);
-        return a.code + a.place + a.rows + a.columns;
-    }
-    default: {
-        sn_answer a = b->write_survey(side, side, heights, n, file, file_size);
-        return a.code + a.place;
-    }
+    case SURVEY:
+        return of_counts(b->survey(side, side, heights, n, marks, n));
+    case DALES_AND_HILLS:
+        return of_answer(b->dales_and_hills(side, side, heights, n, dales, n, hills, n));
+    case RESHOOT:
+        return of_answer(b->reshoot(side, side, held, n, marks, n, p, heights[(p + turn) % posts]));
+    case NEXT_DOWN:
+        return of_next(b->next_down(side, side, heights, n, p));
+    case NEXT_UP:
+        return of_next(b->next_up(side, side, heights, n, p));
+    case THALWEG:
+        return of_entries(b->thalweg(side, side, heights, n, post, run, line, SN_MAX_LINE));
+    case RIDGE:
+        return of_entries(b->ridge(side, side, heights, n, post, run, line, SN_MAX_LINE));
+    case READ:
+        return of_size(b->read_survey(file, file_size, held, n));
+    default:
+        return of_answer(b->write_survey(side, side, heights, n, file, file_size));
     }
 }
 

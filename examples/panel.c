@@ -1,6 +1,6 @@
 /*
  * A small panel program: reads a survey file, surveys it, re-shoots a post,
- * follows a walk a post at a time, and prints a water line and its dale.
+ * follows a walk a post at a time, and shows a saddle with its water line.
  *
  *     panel plot.svy
  */
@@ -9,6 +9,8 @@
 #include <stdio.h>
 
 static uint8_t file[SN_MAX_FILE + 1];
+static uint32_t rows, columns;
+static size_t posts;
 static int32_t heights[SN_MAX_POSTS];
 static uint8_t marks[SN_MAX_POSTS];
 static uint16_t line[SN_MAX_LINE], dales[SN_MAX_POSTS], hills[SN_MAX_POSTS];
@@ -28,13 +30,96 @@ static void print_vertex(uint32_t v)
         printf(" %lu", (unsigned long)v);
 }
 
+/* Reads a file of this length. Bytes 5 and 6 tell how many heights there are. */
+static int read_plot(size_t length)
+{
+    sn_size size;
+
+    posts = length < SN_FILE_HEADER ? 0 : (size_t)file[5] * file[6];
+    if (posts > SN_MAX_POSTS)
+        posts = 0;
+    size = sn_read_survey(file, length, heights, posts);
+    if (size.code != SN_OK)
+        return refused("read", size.code, size.place);
+    rows = size.rows;
+    columns = size.columns;
+    return 0;
+}
+
+static int survey(void)
+{
+    sn_counts counts = sn_survey(rows, columns, heights, posts, marks, posts);
+
+    if (counts.code != SN_OK)
+        return refused("survey", counts.code, counts.place);
+    printf("%lu by %lu: %lu peaks, %lu pits, %lu saddles\n",
+           (unsigned long)rows, (unsigned long)columns, (unsigned long)counts.peaks,
+           (unsigned long)counts.pits, (unsigned long)counts.saddles);
+    return 0;
+}
+
+/* Puts a corrected height at a post; only the marks round it change. */
+static int reshoot(uint32_t post, int32_t height)
+{
+    sn_answer answer = sn_reshoot(rows, columns, heights, posts, marks, posts, post, height);
+
+    if (answer.code != SN_OK)
+        return refused("re-shoot", answer.code, answer.place);
+    printf("post %lu is now at %ld mm, mark %d\n", (unsigned long)post, (long)heights[post],
+           marks[post]);
+    return 0;
+}
+
+/* Follows a walk down a post at a time, to a pit or to the virtual pit. */
+static int walk_down(uint32_t post)
+{
+    printf("walk:");
+    for (;;) {
+        sn_next next = sn_next_down(rows, columns, heights, posts, post);
+        if (next.code != SN_OK)
+            return refused("next", next.code, next.place);
+        print_vertex(post);
+        if (next.post == post)
+            break;
+        post = next.post;
+        if (post == SN_VIRTUAL_PIT) {
+            print_vertex(post);
+            break;
+        }
+    }
+    printf("\n");
+    return 0;
+}
+
+/* A saddle's water line 0, and the dale and the hill that the saddle is in. */
+static int show_saddle(uint32_t saddle)
+{
+    uint32_t i;
+    sn_answer parts = sn_dales_and_hills(rows, columns, heights, posts,
+                                         dales, posts, hills, posts);
+    sn_entries entries = sn_thalweg(rows, columns, heights, posts, saddle, 0,
+                                    line, SN_MAX_LINE);
+
+    if (parts.code != SN_OK)
+        return refused("dales and hills", parts.code, parts.place);
+    if (entries.code != SN_OK)
+        return refused("thalweg", entries.code, entries.place);
+    printf("thalweg:");
+    for (i = 0; i < entries.count; i++)
+        print_vertex(line[i]);
+    printf("\ndale:");
+    print_vertex(dales[saddle]);
+    printf(", hill:");
+    print_vertex(hills[saddle]);
+    printf("\n");
+    return 0;
+}
+
 int main(int argc, char **argv)
 {
     FILE *f = argc == 2 ? fopen(argv[1], "rb") : NULL;
-    size_t length, posts;
-    sn_size size;
-    sn_counts counts;
-    uint32_t post, saddle;
+    size_t length;
+    uint32_t middle, saddle;
 
     if (f == NULL) {
         printf("usage: panel plot.svy\n");
@@ -43,70 +128,15 @@ int main(int argc, char **argv)
     length = fread(file, 1, sizeof file, f);
     fclose(f);
 
-    /* Bytes 5 and 6 tell how many heights there must be. */
-    posts = length < SN_FILE_HEADER ? 0 : (size_t)file[5] * file[6];
-    if (posts > SN_MAX_POSTS)
-        posts = 0;
-    size = sn_read_survey(file, length, heights, posts);
-    if (size.code != SN_OK)
-        return refused("read", size.code, size.place);
-
-    counts = sn_survey(size.rows, size.columns, heights, posts, marks, posts);
-    if (counts.code != SN_OK)
-        return refused("survey", counts.code, counts.place);
-    printf("%lu by %lu: %lu peaks, %lu pits, %lu saddles\n",
-           (unsigned long)size.rows, (unsigned long)size.columns, (unsigned long)counts.peaks,
-           (unsigned long)counts.pits, (unsigned long)counts.saddles);
-
-    /* One corrected height; only the marks round it change. */
-    post = (uint32_t)posts / 2;
-    {
-        sn_answer a = sn_reshoot(size.rows, size.columns, heights, posts, marks, posts,
-                                 post, heights[post] - 5);
-        if (a.code != SN_OK)
-            return refused("re-shoot", a.code, a.place);
-    }
-    printf("post %lu is now at %ld mm, mark %d\n", (unsigned long)post, (long)heights[post],
-           marks[post]);
-
-    /* A walk down from the last inner post. */
-    printf("walk:");
-    post = (uint32_t)posts - size.columns - 2;
-    for (;;) {
-        sn_next n = sn_next_down(size.rows, size.columns, heights, posts, post);
-        if (n.code != SN_OK)
-            return refused("next", n.code, n.place);
-        print_vertex(post);
-        if (n.post == post || n.post == SN_VIRTUAL_PIT) {
-            if (n.post != post)
-                print_vertex(n.post);
-            break;
-        }
-        post = n.post;
-    }
-    printf("\n");
-
-    /* The first saddle's water line, and the dale that it drains to. */
+    if (read_plot(length) || survey())
+        return 1;
+    middle = (uint32_t)posts / 2;
+    if (reshoot(middle, heights[middle] - 5))
+        return 1;
+    /* From the last post that is on no border. */
+    if (walk_down((uint32_t)posts - columns - 2))
+        return 1;
     for (saddle = 0; saddle < posts && marks[saddle] < SN_SADDLE_1; saddle++)
         ;
-    if (saddle < posts) {
-        uint32_t i;
-        sn_answer parts = sn_dales_and_hills(size.rows, size.columns, heights, posts,
-                                             dales, posts, hills, posts);
-        sn_entries e = sn_thalweg(size.rows, size.columns, heights, posts, saddle, 0,
-                                  line, SN_MAX_LINE);
-        if (parts.code != SN_OK)
-            return refused("dales and hills", parts.code, parts.place);
-        if (e.code != SN_OK)
-            return refused("thalweg", e.code, e.place);
-        printf("thalweg:");
-        for (i = 0; i < e.count; i++)
-            print_vertex(line[i]);
-        printf("\ndale:");
-        print_vertex(dales[saddle]);
-        printf(", hill:");
-        print_vertex(hills[saddle]);
-        printf("\n");
-    }
-    return 0;
+    return saddle < posts ? show_saddle(saddle) : 0;
 }
