@@ -3,7 +3,7 @@ mod line;
 mod order;
 pub mod run;
 mod table;
-pub mod walk;
+mod walk;
 
 use line::draw_line;
 use surface::Entries;

@@ -11,7 +11,7 @@ pub struct Borders {
     pub last: bool,
 }
 
-pub fn borders_of(rows: usize, columns: usize, p: usize) -> Borders
+pub(crate) fn borders_of(rows: usize, columns: usize, p: usize) -> Borders
     requires { ⌜ (2 ≤ columns) × (columns ≤ 120) × (p < 14400) ⌝ }
     ensures { λ r. ⌜ r ≡ bordersOf rows columns p ⌝ }
 {
@@ -26,7 +26,7 @@ pub fn borders_of(rows: usize, columns: usize, p: usize) -> Borders
 }
 
 // The post stands on some border.
-pub fn is_border(rows: usize, columns: usize, p: usize) -> bool
+pub(crate) fn is_border(rows: usize, columns: usize, p: usize) -> bool
     requires { ⌜ (2 ≤ columns) × (columns ≤ 120) × (p < 14400) ⌝ }
     ensures { λ r. ⌜ r ≡ isBorder rows columns p ⌝ }
 {

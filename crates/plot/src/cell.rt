@@ -16,7 +16,7 @@ pub fn less(heights: &[i32], p: usize, q: usize) -> bool
 
 // The diagonal of cell a falls: its lowest post is the north-western or the south-eastern one. Of two level posts the one with the lower number is
 // lower, so the north-western post need only not be higher than the others, and the south-eastern one has to be lower.
-pub fn falls(heights: &[i32], columns: usize, a: usize) -> bool
+pub(crate) fn falls(heights: &[i32], columns: usize, a: usize) -> bool
     requires { ⌜ (2 ≤ columns) × (a + columns + 1 < length (now heights)) × (length (now heights) ≤ 14400) ⌝ }
     ensures { λ r. ⌜ r ≡ throughLowest (below (now (heights .entry))) columns a ⌝ }
 {

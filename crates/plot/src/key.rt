@@ -27,7 +27,7 @@ pub struct Block {
 }
 
 // A height counted from the lowest there may be.
-pub fn raise(h: i32) -> u32
+fn raise(h: i32) -> u32
     requires { ⌜ isHeight h ≡ true ⌝ }
     ensures { λ r. ⌜ (r ≡ raised h) × (r ≤ 2000000) ⌝ }
 {
@@ -35,7 +35,7 @@ pub fn raise(h: i32) -> u32
 }
 
 // The key of q among the posts round p.
-pub fn key_of(heights: &[i32], columns: usize, p: usize, q: usize) -> u32
+fn key_of(heights: &[i32], columns: usize, p: usize, q: usize) -> u32
     requires { ⌜ InRange (now heights) × (q < length (now heights)) × (length (now heights) ≤ 14400) × (columns ≤ 120) × Near columns p q ⌝ }
     ensures { λ r. ⌜ (r ≡ keyOf (now (heights .entry)) columns p q) × Small r ⌝ }
 {
@@ -43,7 +43,7 @@ pub fn key_of(heights: &[i32], columns: usize, p: usize, q: usize) -> u32
 }
 
 // The key of the post d numbers before p, or p's own where it is not there.
-pub fn key_back(heights: &[i32], columns: usize, p: usize, d: usize, there: bool) -> u32
+fn key_back(heights: &[i32], columns: usize, p: usize, d: usize, there: bool) -> u32
     requires { ⌜ InRange (now heights) × (p < length (now heights)) × (length (now heights) ≤ 14400) × (columns ≤ 120) × (d ≤ columns + 1) × (there ≡ true → d ≤ p) ⌝ }
     ensures { λ r. ⌜ (r ≡ keyOf (now (heights .entry)) columns p (cond there (p - d) p)) × Small r ⌝ }
 {
@@ -51,7 +51,7 @@ pub fn key_back(heights: &[i32], columns: usize, p: usize, d: usize, there: bool
 }
 
 // The same of the post d numbers after p.
-pub fn key_ahead(heights: &[i32], columns: usize, p: usize, d: usize, there: bool) -> u32
+fn key_ahead(heights: &[i32], columns: usize, p: usize, d: usize, there: bool) -> u32
     requires { ⌜ InRange (now heights) × (p < length (now heights)) × (length (now heights) ≤ 14400) × (columns ≤ 120) × (d ≤ columns + 1) × (there ≡ true → p + d < length (now heights)) ⌝ }
     ensures { λ r. ⌜ (r ≡ keyOf (now (heights .entry)) columns p (cond there (p + d) p)) × Small r ⌝ }
 {
@@ -59,7 +59,7 @@ pub fn key_ahead(heights: &[i32], columns: usize, p: usize, d: usize, there: boo
 }
 
 // The keys round p, which stands at these borders.
-pub fn block_at(heights: &[i32], columns: usize, p: usize, at: Borders) -> Block
+pub(crate) fn block_at(heights: &[i32], columns: usize, p: usize, at: Borders) -> Block
     requires { ⌜ InRange (now heights) × Room (length (now heights)) columns p at (cells at) ⌝ }
     ensures { λ r. ⌜ (r ≡ blockOf (keyOf (now (heights .entry)) columns p) columns p at) × SmallBlock r ⌝ }
 {
@@ -77,7 +77,7 @@ pub fn block_at(heights: &[i32], columns: usize, p: usize, at: Borders) -> Block
 }
 
 // The keys round p, which stands on no border: nothing to choose, so that a walk, which waits for each key, is the quicker.
-pub fn block_inside(heights: &[i32], columns: usize, p: usize) -> Block
+pub(crate) fn block_inside(heights: &[i32], columns: usize, p: usize) -> Block
     requires { ⌜ InRange (now heights) × Room (length (now heights)) columns p inside (cells inside) ⌝ }
     ensures { λ r. ⌜ (r ≡ blockOf (keyOf (now (heights .entry)) columns p) columns p inside) × SmallBlock r ⌝ }
 {
@@ -95,7 +95,7 @@ pub fn block_inside(heights: &[i32], columns: usize, p: usize) -> Block
 }
 
 // x is less than y. As signed numbers, which vector code compares in one step.
-pub fn is_less(x: u32, y: u32) -> bool
+fn is_less(x: u32, y: u32) -> bool
     requires { ⌜ Small x × Small y ⌝ }
     ensures { λ r. ⌜ r ≡ ltb x y ⌝ }
 {
@@ -103,7 +103,7 @@ pub fn is_less(x: u32, y: u32) -> bool
 }
 
 // The block with those corners only that have both sides of their cell above the post.
-pub fn keep_corners(b: Block) -> Block
+pub(crate) fn keep_corners(b: Block) -> Block
     requires { ⌜ SmallBlock b ⌝ }
     ensures { λ r. ⌜ (r ≡ cornersKept b) × SmallBlock r ⌝ }
 {
@@ -125,7 +125,7 @@ pub fn keep_corners(b: Block) -> Block
 }
 
 // The lower of two keys, the higher where `up`.
-pub fn lower_of(up: bool, x: u32, y: u32) -> u32
+fn lower_of(up: bool, x: u32, y: u32) -> u32
     requires { ⌜ Small x × Small y ⌝ }
     ensures { λ r. ⌜ (r ≡ lowerOf (order up) x y) × Small r ⌝ }
 {
@@ -134,7 +134,7 @@ pub fn lower_of(up: bool, x: u32, y: u32) -> u32
 }
 
 // The lowest key of a block, the highest where `up`.
-pub fn lowest_in(up: bool, b: Block) -> u32
+pub(crate) fn lowest_in(up: bool, b: Block) -> u32
     requires { ⌜ SmallBlock b ⌝ }
     ensures { λ r. ⌜ r ≡ lowestOr (order up) (b .post) (around b) ⌝ }
 {
@@ -149,7 +149,7 @@ pub fn lowest_in(up: bool, b: Block) -> u32
 }
 
 // The post that has key k among those round p.
-pub fn post_of(columns: usize, p: usize, k: u32) -> usize
+pub(crate) fn post_of(columns: usize, p: usize, k: u32) -> usize
     requires { ⌜ (columns ≤ 120) × (p < 14400) × (columns + 1 ≤ p + k % 256) ⌝ }
     ensures { λ r. ⌜ r ≡ p + k % 256 - (columns + 1) ⌝ }
 {

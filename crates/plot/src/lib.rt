@@ -1,11 +1,11 @@
 // One post at a time: the leaves that the calls are made of.
-pub mod border;
+mod border;
 pub mod cell;
-pub mod key;
+mod key;
 pub mod limits;
 pub mod mark;
 pub mod next;
 pub mod ring;
 pub mod row;
 pub mod side;
-pub mod sign;
+mod sign;

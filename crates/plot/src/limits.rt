@@ -26,7 +26,7 @@ pub fn is_height(h: i32) -> bool
 }
 
 // The first post whose height is out of range, the number of heights where none is.
-pub fn first_out(heights: &[i32]) -> usize
+fn first_out(heights: &[i32]) -> usize
     ensures { λ r. ⌜ r ≡ firstNot isHeight (now (heights .entry)) ⌝ }
 {
     let mut i = 0;
@@ -40,7 +40,7 @@ pub fn first_out(heights: &[i32]) -> usize
 }
 
 // Whether every height is in range: a pass with no branch.
-pub fn all_in(heights: &[i32]) -> bool
+fn all_in(heights: &[i32]) -> bool
     ensures { λ r. ⌜ r ≡ all isHeight (now (heights .entry)) ⌝ }
 {
     let mut ok = true;

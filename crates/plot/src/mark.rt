@@ -10,14 +10,14 @@ ghost use Rattle.plot.specs.Fits.{Fits};
 ghost use Rattle.plot.specs.Signs.{asSigns, Inside};
 
 // 1 where a lower run starts at the second of two places, else 0.
-pub fn rise(a: bool, b: bool) -> u8
+fn rise(a: bool, b: bool) -> u8
     ensures { λ r. ⌜ (r ≡ rise a b) × (r ≤ 1) ⌝ }
 {
     (b & !a) as u8
 }
 
 // The mark by the sign of the first place and the number of lower runs that start: where none does, all signs are alike.
-pub fn mark_by(first: bool, runs: u8) -> u8
+fn mark_by(first: bool, runs: u8) -> u8
     requires { ⌜ runs ≤ 8 ⌝ }
     ensures { λ r. ⌜ r ≡ markBy first runs ⌝ }
 {
@@ -27,7 +27,7 @@ pub fn mark_by(first: bool, runs: u8) -> u8
 }
 
 // The mark of a post with these signs.
-pub fn mark_of(g: Signs) -> u8
+fn mark_of(g: Signs) -> u8
     ensures { λ r. ⌜ r ≡ markOfSigns (asSigns g) ⌝ }
 {
     let n = rise(g.nw, g.n);

@@ -20,7 +20,7 @@ pub struct Ring {
 }
 
 // A ring with one member more, where it is there.
-pub fn with_member(ring: Ring, there: bool, member: usize) -> Ring
+fn with_member(ring: Ring, there: bool, member: usize) -> Ring
     requires { ⌜ (ring .len < 8) × (length (ring .members) ≡ 8) ⌝ }
     ensures { λ r. ⌜ Grown ring there member r ⌝ }
 {
@@ -32,7 +32,7 @@ pub fn with_member(ring: Ring, there: bool, member: usize) -> Ring
 }
 
 // A ring with the post d numbers before p, or with the virtual pit where that is no post.
-pub fn with_back(ring: Ring, there: bool, post: bool, p: usize, d: usize) -> Ring
+fn with_back(ring: Ring, there: bool, post: bool, p: usize, d: usize) -> Ring
     requires { ⌜ (ring .len < 8) × (length (ring .members) ≡ 8) × (post ≡ true → d ≤ p) ⌝ }
     ensures { λ r. ⌜ Grown ring there (cond post (p - d) virtualPit) r ⌝ }
 {
@@ -43,7 +43,7 @@ pub fn with_back(ring: Ring, there: bool, post: bool, p: usize, d: usize) -> Rin
 }
 
 // A ring with the post d numbers after p, or with the virtual pit where that is no post.
-pub fn with_ahead(ring: Ring, there: bool, post: bool, p: usize, d: usize) -> Ring
+fn with_ahead(ring: Ring, there: bool, post: bool, p: usize, d: usize) -> Ring
     requires { ⌜ (ring .len < 8) × (length (ring .members) ≡ 8) × (p < 14400) × (d < 14400) ⌝ }
     ensures { λ r. ⌜ Grown ring there (cond post (p + d) virtualPit) r ⌝ }
 {
@@ -54,7 +54,7 @@ pub fn with_ahead(ring: Ring, there: bool, post: bool, p: usize, d: usize) -> Ri
 }
 
 // The ring of p, which stands at these borders and is joined to these corners.
-pub fn ring_of(columns: usize, p: usize, at: Borders, with: Corners) -> Ring
+fn ring_of(columns: usize, p: usize, at: Borders, with: Corners) -> Ring
     requires { ⌜ RingRoom columns p at with ⌝ }
     ensures { λ r. ⌜ Held r (members (ringPlaces columns p at with)) ⌝ }
 {

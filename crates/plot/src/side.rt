@@ -8,7 +8,7 @@ ghost use Rattle.surface.specs.Plot.{below};
 ghost use Rattle.surface.specs.Edges.{throughLowest};
 
 // Post q, whose number is before p's, is below p.
-pub fn lower_before(heights: &[i32], p: usize, q: usize) -> bool
+pub(crate) fn lower_before(heights: &[i32], p: usize, q: usize) -> bool
     requires { ⌜ (q < p) × (p < length (now heights)) × (length (now heights) ≤ 14400) ⌝ }
     ensures { λ r. ⌜ r ≡ below (now (heights .entry)) q p ⌝ }
 {
@@ -16,7 +16,7 @@ pub fn lower_before(heights: &[i32], p: usize, q: usize) -> bool
 }
 
 // Post q, whose number is after p's, is below p.
-pub fn lower_after(heights: &[i32], p: usize, q: usize) -> bool
+pub(crate) fn lower_after(heights: &[i32], p: usize, q: usize) -> bool
     requires { ⌜ (p < q) × (q < length (now heights)) × (length (now heights) ≤ 14400) ⌝ }
     ensures { λ r. ⌜ r ≡ below (now (heights .entry)) q p ⌝ }
 {
@@ -24,7 +24,7 @@ pub fn lower_after(heights: &[i32], p: usize, q: usize) -> bool
 }
 
 // The post d numbers before p is below p; where it is not there, `other`.
-pub fn back(heights: &[i32], p: usize, d: usize, there: bool, other: bool) -> bool
+pub(crate) fn back(heights: &[i32], p: usize, d: usize, there: bool, other: bool) -> bool
     requires { ⌜ (p < length (now heights)) × (length (now heights) ≤ 14400) × (there ≡ true → (1 ≤ d) × (d ≤ p)) ⌝ }
     ensures { λ r. ⌜ r ≡ cond there (below (now (heights .entry)) (p - d) p) other ⌝ }
 {
@@ -35,7 +35,7 @@ pub fn back(heights: &[i32], p: usize, d: usize, there: bool, other: bool) -> bo
 }
 
 // The post d numbers after p is below p; where it is not there, `other`.
-pub fn ahead(heights: &[i32], p: usize, d: usize, there: bool, other: bool) -> bool
+pub(crate) fn ahead(heights: &[i32], p: usize, d: usize, there: bool, other: bool) -> bool
     requires { ⌜ (length (now heights) ≤ 14400) × (there ≡ true → (1 ≤ d) × (p + d < length (now heights))) ⌝ }
     ensures { λ r. ⌜ r ≡ cond there (below (now (heights .entry)) (p + d) p) other ⌝ }
 {
@@ -46,7 +46,7 @@ pub fn ahead(heights: &[i32], p: usize, d: usize, there: bool, other: bool) -> b
 }
 
 // The cell d numbers before p is there, and its diagonal falls.
-pub fn falls_back(heights: &[i32], columns: usize, p: usize, d: usize, there: bool) -> bool
+pub(crate) fn falls_back(heights: &[i32], columns: usize, p: usize, d: usize, there: bool) -> bool
     requires { ⌜ (2 ≤ columns) × (length (now heights) ≤ 14400) × (there ≡ true → (d ≤ p) × (p - d + columns + 1 < length (now heights))) ⌝ }
     ensures { λ r. ⌜ r ≡ there && throughLowest (below (now (heights .entry))) columns (p - d) ⌝ }
 {
@@ -57,7 +57,7 @@ pub fn falls_back(heights: &[i32], columns: usize, p: usize, d: usize, there: bo
 }
 
 // x where b holds, else y. So written, the compiler makes no branch of it.
-pub fn pick(b: bool, x: bool, y: bool) -> bool
+pub(crate) fn pick(b: bool, x: bool, y: bool) -> bool
     ensures { λ r. ⌜ r ≡ cond b x y ⌝ }
 {
     y ^ (b & (x ^ y))
@@ -71,7 +71,7 @@ pub fn choose(b: bool, x: usize, y: usize) -> usize
 }
 
 // The same of keys.
-pub fn choose_key(b: bool, x: u32, y: u32) -> u32
+pub(crate) fn choose_key(b: bool, x: u32, y: u32) -> u32
     ensures { λ r. ⌜ r ≡ cond b x y ⌝ }
 {
     if b { x } else { y }

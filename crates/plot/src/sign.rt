@@ -32,7 +32,13 @@ pub struct Corners {
 }
 
 // The corners that share an edge with p, which stands at these borders.
-pub fn corners_of(heights: &[i32], rows: usize, columns: usize, p: usize, at: Borders) -> Corners
+pub(crate) fn corners_of(
+    heights: &[i32],
+    rows: usize,
+    columns: usize,
+    p: usize,
+    at: Borders,
+) -> Corners
     requires { ⌜ Fits rows columns (now heights) × (p < rows * columns) × (at ≡ bordersOf rows columns p) ⌝ }
     ensures { λ r. ⌜ r ≡ cornersOf rows columns (throughLowest (below (now (heights .entry))) columns) p ⌝ }
 {
@@ -49,7 +55,7 @@ pub fn corners_of(heights: &[i32], rows: usize, columns: usize, p: usize, at: Bo
 }
 
 // The signs of p, which stands at these borders and is joined to these corners.
-pub fn signs_of(heights: &[i32], columns: usize, p: usize, at: Borders, with: Corners) -> Signs
+fn signs_of(heights: &[i32], columns: usize, p: usize, at: Borders, with: Corners) -> Signs
     requires { ⌜ Room (length (now heights)) columns p at with ⌝ }
     ensures { λ r. ⌜ r ≡ signsOf (λ q. below (now (heights .entry)) q p) columns p at with ⌝ }
 {
@@ -74,7 +80,7 @@ pub fn signs_of(heights: &[i32], columns: usize, p: usize, at: Borders, with: Co
 }
 
 // The signs of any post.
-pub fn signs_at(heights: &[i32], rows: usize, columns: usize, p: usize) -> Signs
+pub(crate) fn signs_at(heights: &[i32], rows: usize, columns: usize, p: usize) -> Signs
     requires { ⌜ Fits rows columns (now heights) × (p < rows * columns) ⌝ }
     ensures { λ r. ⌜ asSigns r ≡ signs rows columns (throughLowest (below (now (heights .entry))) columns) (λ q. below (now (heights .entry)) q p) p ⌝ }
 {
@@ -84,7 +90,7 @@ pub fn signs_at(heights: &[i32], rows: usize, columns: usize, p: usize) -> Signs
 }
 
 // The signs of a post on no border, round which these diagonals fall. Every neighbour is compared, joined or not, so that there is no branch.
-pub fn signs_inside(
+pub(crate) fn signs_inside(
     heights: &[i32],
     columns: usize,
     p: usize,

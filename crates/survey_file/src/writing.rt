@@ -1,8 +1,8 @@
 // Writing a survey file: whether it is turned away, and what goes into it.
 use crate::tenths::filed;
 use crate::words::put_word;
-use plot::limits::first_out;
-use plot::limits::is_plot;
+use plot::limits::ranged;
+use plot::limits::sized;
 use surface::Answer;
 ghost use mathlib.Core.Path.{_≡_};
 ghost use mathlib.Core.Bool.{true, _&&_};
@@ -19,24 +19,14 @@ ghost use Rattle.surface.specs.Calls.{answer};
 pub(crate) fn write_verdict(rows: u32, columns: u32, heights: &[i32], file: &[u8]) -> Answer
     ensures { λ r. ⌜ r ≡ answer (writeVerdict rows columns (now (heights .entry)) (now (file .entry))) ⌝ }
 {
-    if !is_plot(rows, columns) {
-        return Answer { code: 1, place: 0 };
+    let code = sized(rows, columns, heights);
+    if code != 0 {
+        return Answer { code, place: 0 };
     }
-    let posts = (rows * columns) as usize;
-    if heights.len() != posts {
-        return Answer { code: 2, place: 0 };
-    }
-    if file.len() != 7 + 4 * posts {
+    if file.len() != 7 + 4 * heights.len() {
         return Answer { code: 3, place: 0 };
     }
-    let post = first_out(heights);
-    if post < heights.len() {
-        return Answer {
-            code: 4,
-            place: post as u32,
-        };
-    }
-    Answer { code: 0, place: 0 }
+    ranged(heights)
 }
 
 // Writes the seven bytes before the heights.
