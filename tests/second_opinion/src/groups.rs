@@ -18,9 +18,15 @@ pub fn all(t: &mut Tester, chance: &mut Chance, long: bool) {
     let times = if long { 20 } else { 1 };
     bench_plots::bench_plots(t);
     refusals::refusals(t, chance, 12 * times);
-    bounds::boundaries(t, chance);
+    bounds::sides(t, chance);
+    bounds::heights(t, chance);
+    bounds::posts_and_runs(t, chance);
+    bounds::lengths(t, chance);
     bounds::other_shape(t, chance);
-    files::files(t, chance, times);
+    files::round_trip(t, chance, 300 * times);
+    files::every_tenth(t);
+    files::every_damage(t);
+    files::damaged_by_chance(t, chance, 3000 * times);
     series::never_surveyed(t, chance, 2000 * times);
     whole_plots::small_random(t, chance, 4000 * times);
     series::series(t, chance, times);

@@ -90,6 +90,13 @@ pub fn ground(kind: &str, rows: usize, columns: usize, chance: &mut Chance) -> V
     }
 }
 
+/// Rows, columns and heights of a plot with sides from 2 to `most`, of each ground
+/// in turn.
+pub fn any_plot(turn: usize, most: usize, chance: &mut Chance) -> (usize, usize, Vec<i32>) {
+    let (rows, columns) = (2 + chance.below(most - 1), 2 + chance.below(most - 1));
+    (rows, columns, ground(GROUNDS[turn % GROUNDS.len()], rows, columns, chance))
+}
+
 /// A path one post wide that falls from the outside to the middle, with a high
 /// wall between its windings.
 fn spiral(rows: usize, columns: usize) -> Vec<i32> {

@@ -51,15 +51,19 @@ impl Plot<'_> {
         (self.heights[p], p) < (self.heights[q], q)
     }
 
+    /// Is it a move this way from p to q?
+    pub fn moves(&self, way: Way, p: usize, q: usize) -> bool {
+        match way {
+            Way::Down => self.below(q, p),
+            Way::Up => self.below(p, q),
+        }
+    }
+
     /// The lowest, or the highest.
     pub fn extreme(&self, way: Way, vertices: &[usize]) -> usize {
         let mut best = vertices[0];
         for &v in vertices {
-            let further = match way {
-                Way::Down => self.below(v, best),
-                Way::Up => self.below(best, v),
-            };
-            if further {
+            if self.moves(way, best, v) {
                 best = v;
             }
         }

@@ -6,89 +6,95 @@ use crate::opinion::file_of;
 use crate::plots::{ground, Chance};
 use crate::tester::{law, Tester};
 
-pub fn boundaries(t: &mut Tester, chance: &mut Chance) {
+pub fn sides(t: &mut Tester, chance: &mut Chance) {
     t.group("sides at and beyond the bounds");
     let sides = [0, 1, 2, 3, 119, 120, 121, 122, 255, 256, 65535, 65536, 1 << 31, u32::MAX];
     for kind in KINDS {
         for rows in sides {
             for columns in sides {
-                // As many heights as the product, or what is left of it in 32 or 16 bits.
-                let product = rows as u64 * columns as u64;
-                let posts = [product, product & 0xffff_ffff, product & 0xffff, 4];
-                let posts = posts.into_iter().find(|&n| n <= 15_000).unwrap() as usize;
-                let mut call = good(kind, 1, posts.max(1), &vec![0; posts.max(1)], chance);
-                (call.rows, call.columns, call.post) = (rows, columns, 0);
-                if kind == Kind::ReadSurvey {
-                    if rows > 255 || columns > 255 {
-                        continue;
-                    }
-                    call.file = file_of(rows as u8, columns as u8, &vec![0; posts]);
-                    (call.rows, call.columns) = (0, 0);
+                let call = flat(kind, rows, columns, chance);
+                // A file has one byte for each side.
+                if kind == Kind::ReadSurvey && rows.max(columns) > 255 {
+                    continue;
                 }
-                for list in [&mut call.dales, &mut call.hills] {
-                    list.truncate(posts);
-                }
-                call.heights.truncate(posts);
-                call.marks.truncate(posts);
-                let outcome = t.agree(&call).and_then(|(answer, _)| {
+                t.case(t.agree(&call).and_then(|(answer, _)| {
                     let fits = (2..=120).contains(&rows) && (2..=120).contains(&columns);
-                    let flat = matches!(kind, Kind::Thalweg | Kind::Ridge);
-                    let code = match (fits, flat) {
-                        (false, _) => 1,
-                        (true, true) => 7,
-                        (true, false) => 0,
+                    let code = match kind {
+                        _ if !fits => 1,
+                        Kind::Thalweg | Kind::Ridge => 7,
+                        _ => 0,
                     };
                     law(answer[0] == code, "sides 2 to 120 are accepted, others not", &call)
-                });
-                t.case(outcome);
+                }));
             }
         }
     }
+}
 
+/// A flat sheet with as many posts as the sides' product, or what is left of it in
+/// 32 or 16 bits.
+fn flat(kind: Kind, rows: u32, columns: u32, chance: &mut Chance) -> Call {
+    let product = rows as u64 * columns as u64;
+    let posts = [product, product & 0xffff_ffff, product & 0xffff, 4];
+    let posts = posts.into_iter().find(|&n| n <= 15_000).unwrap() as usize;
+    let mut call = good(kind, 1, posts.max(1), &vec![0; posts.max(1)], chance);
+    (call.rows, call.columns, call.post) = (rows, columns, 0);
+    if kind == Kind::ReadSurvey {
+        call.file = file_of(rows as u8, columns as u8, &vec![0; posts]);
+        (call.rows, call.columns) = (0, 0);
+    }
+    call.heights.truncate(posts);
+    call.marks.truncate(posts);
+    call.dales.truncate(posts);
+    call.hills.truncate(posts);
+    call
+}
+
+const HEIGHTS: [i32; 12] = [
+    999_999,
+    1_000_000,
+    1_000_001,
+    -999_999,
+    -1_000_000,
+    -1_000_001,
+    i32::MAX,
+    i32::MIN,
+    i32::MAX - 1,
+    i32::MIN + 1,
+    10_000_000,
+    -10_000_000,
+];
+
+pub fn heights(t: &mut Tester, chance: &mut Chance) {
     t.group("heights at and beyond the bounds");
-    let heights = [
-        999_999,
-        1_000_000,
-        1_000_001,
-        -999_999,
-        -1_000_000,
-        -1_000_001,
-        i32::MAX,
-        i32::MIN,
-        i32::MAX - 1,
-        i32::MIN + 1,
-        10_000_000,
-        -10_000_000,
-    ];
     let within = |h: i32| (-1_000_000..=1_000_000).contains(&h);
     for kind in KINDS {
-        for height in heights {
+        for height in HEIGHTS {
             for post in 0..6 {
                 let mut call = good(kind, 3, 2, &[2, 0, 0, 3, 1, 0], chance);
                 if kind == Kind::ReadSurvey {
-                    let tenths =
-                        (height as i64 * 10).clamp(i32::MIN as i64, i32::MAX as i64) as i32;
+                    let tenths = height.saturating_mul(10);
                     call.file[7 + 4 * post..][..4].copy_from_slice(&tenths.to_be_bytes());
                 } else {
                     call.heights[post] = height;
                 }
-                let outcome = t.agree(&call).and_then(|(answer, _)| {
+                t.case(t.agree(&call).and_then(|(answer, _)| {
                     let refused = answer[0] == 4 && answer[1] == post as u32;
                     law(refused != within(height), "refusal 4 at its place", &call)
-                });
-                t.case(outcome);
+                }));
             }
             if kind == Kind::Reshoot {
                 let mut call = good(kind, 3, 2, &[2, 0, 0, 3, 1, 0], chance);
                 call.height = height;
-                let outcome = t.agree(&call).and_then(|(answer, _)| {
+                t.case(t.agree(&call).and_then(|(answer, _)| {
                     law((answer[0] == 6) != within(height), "refusal 6", &call)
-                });
-                t.case(outcome);
+                }));
             }
         }
     }
+}
 
+pub fn posts_and_runs(t: &mut Tester, chance: &mut Chance) {
     t.group("posts and runs at and beyond the end");
     for kind in [Kind::Reshoot, Kind::NextDown, Kind::NextUp, Kind::Thalweg, Kind::Ridge] {
         for (rows, columns) in [(2, 2), (3, 4), (120, 120)] {
@@ -109,18 +115,18 @@ pub fn boundaries(t: &mut Tester, chance: &mut Chance) {
                 u32::MAX,
             ] {
                 let call = Call { post, ..base.clone() };
-                let outcome = t.agree(&call).and_then(|(answer, _)| {
+                t.case(t.agree(&call).and_then(|(answer, _)| {
                     law((answer[0] == 5) == (post >= posts), "refusal 5", &call)
-                });
-                t.case(outcome);
+                }));
             }
             for run in [0, 1, 2, 3, 4, 5, 255, 256, 65535, 65536, 1 << 31, u32::MAX] {
-                let outcome = t.agree(&Call { run, ..base.clone() }).map(drop);
-                t.case(outcome);
+                t.case(t.agree(&Call { run, ..base.clone() }).map(drop));
             }
         }
     }
+}
 
+pub fn lengths(t: &mut Tester, chance: &mut Chance) {
     t.group("lengths of lists");
     for kind in KINDS {
         let lengths = |n: usize| [0, 1, n - 1, n, n + 1, 2 * n];
@@ -140,8 +146,7 @@ pub fn boundaries(t: &mut Tester, chance: &mut Chance) {
                         }
                         Kind::NextDown | Kind::NextUp => {}
                     }
-                    let outcome = t.agree(&call).map(drop);
-                    t.case(outcome);
+                    t.case(t.agree(&call).map(drop));
                 }
             }
         }

@@ -10,9 +10,9 @@ pub fn read(file: Vec<u8>, room: usize) -> Call {
     Call { kind: Kind::ReadSurvey, file, heights: vec![77; room], ..Call::default() }
 }
 
-pub fn files(t: &mut Tester, chance: &mut Chance, times: usize) {
+pub fn round_trip(t: &mut Tester, chance: &mut Chance, times: usize) {
     t.group("files: round trip");
-    for i in 0..300 * times {
+    for i in 0..times {
         let (rows, columns) = match i {
             0 => (120, 120),
             1 => (2, 120),
@@ -29,7 +29,9 @@ pub fn files(t: &mut Tester, chance: &mut Chance, times: usize) {
             });
         t.case(outcome);
     }
+}
 
+pub fn every_tenth(t: &mut Tester) {
     t.group("files: every tenth, and the bounds");
     let bounds = [0, 1, -1].iter().flat_map(|sign| (9_999_980..=10_000_020).map(move |t| sign * t));
     let extremes = [i32::MAX, i32::MIN, i32::MAX - 1, i32::MIN + 1];
@@ -38,15 +40,21 @@ pub fn files(t: &mut Tester, chance: &mut Chance, times: usize) {
             let mut list = [3, 14, -15, 26];
             list[post] = tenths;
             let call = read(file_of(2, 2, &list), 4);
-            let outcome = t.agree(&call).and_then(|(answer, left)| {
+            t.case(t.agree(&call).and_then(|(answer, left)| {
                 let fits = (-10_000_000..=10_000_000).contains(&tenths);
                 law((answer[0] == 0) == fits, "the range of a filed height", &call)?;
                 law(!fits || left.heights[post] == by_float(tenths), "the rounding", &call)
-            });
-            t.case(outcome);
+            }));
         }
     }
+}
 
+/// The rounding once more, by floating point: `round` takes halves away from 0.
+fn by_float(tenths: i32) -> i32 {
+    (tenths as f64 / 10.0).round() as i32
+}
+
+pub fn every_damage(t: &mut Tester) {
     t.group("files: each byte damaged, each prefix, one byte more");
     for (rows, columns) in [(2, 2), (3, 2)] {
         let posts = (rows * columns) as usize;
@@ -56,10 +64,9 @@ pub fn files(t: &mut Tester, chance: &mut Chance, times: usize) {
             for change in 1..=255 {
                 let mut file = whole.clone();
                 file[at] ^= change;
-                let outcome = t.agree(&read(file, posts)).and_then(|(answer, left)| {
+                t.case(t.agree(&read(file, posts)).and_then(|(answer, left)| {
                     law(at >= 7 || answer[0] != 0, "a damaged header is refused", &left)
-                });
-                t.case(outcome);
+                }));
             }
         }
         for length in 0..=whole.len() + 1 {
@@ -68,16 +75,17 @@ pub fn files(t: &mut Tester, chance: &mut Chance, times: usize) {
             for room in [0, posts - 1, posts, posts + 1] {
                 let call = read(file.clone(), room);
                 let good = length == whole.len() && room == posts;
-                let outcome = t.agree(&call).and_then(|(answer, _)| {
+                t.case(t.agree(&call).and_then(|(answer, _)| {
                     law((answer[0] == 0) == good, "only the whole file is accepted", &call)
-                });
-                t.case(outcome);
+                }));
             }
         }
     }
+}
 
+pub fn damaged_by_chance(t: &mut Tester, chance: &mut Chance, times: usize) {
     t.group("files: damaged by chance");
-    for _ in 0..3000 * times {
+    for _ in 0..times {
         let (rows, columns) = (2 + chance.below(6), 2 + chance.below(6));
         let tenths: Vec<i32> =
             (0..rows * columns).map(|_| chance.within(-10_000_000, 10_000_000)).collect();
@@ -93,12 +101,6 @@ pub fn files(t: &mut Tester, chance: &mut Chance, times: usize) {
             _ => {}
         }
         let room = if chance.one_in(8) { chance.below(50) } else { rows * columns };
-        let outcome = t.agree(&read(file, room)).map(drop);
-        t.case(outcome);
+        t.case(t.agree(&read(file, room)).map(drop));
     }
-}
-
-/// The rounding once more, by floating point: `round` takes halves away from 0.
-fn by_float(tenths: i32) -> i32 {
-    (tenths as f64 / 10.0).round() as i32
 }

@@ -29,94 +29,102 @@ fn resize<T: Copy + Default>(list: &mut Vec<T>, chance: &mut Chance) {
 
 /// Makes a row of the table hold, and gives the place it must be refused with.
 pub fn spoil(call: &mut Call, row: u32, chance: &mut Chance) -> u32 {
-    let reading = call.kind == Kind::ReadSurvey;
+    let posts = call.heights.len() as u32;
     match row {
-        1 if reading => {
-            let at = 5 + chance.below(2);
-            call.file[at] = chance.of(&[0, 1, 121, 122, 255]);
-        }
-        1 => {
-            let side = chance.of(&BAD_SIDES);
-            let both = chance.one_in(3);
-            if both || chance.one_in(2) {
-                call.rows = side;
-            } else {
-                call.columns = side;
-            }
-            if both {
-                call.columns = chance.of(&BAD_SIDES);
-            }
-        }
+        1 => spoil_sides(call, chance),
         2 => resize(&mut call.heights, chance),
-        3 => match call.kind {
-            Kind::Survey | Kind::Reshoot => resize(&mut call.marks, chance),
-            Kind::WriteSurvey => resize(&mut call.file, chance),
-            Kind::ReadSurvey => resize(&mut call.heights, chance),
-            _ => match chance.below(3) {
-                0 => resize(&mut call.dales, chance),
-                1 => resize(&mut call.hills, chance),
-                _ => {
-                    resize(&mut call.dales, chance);
-                    resize(&mut call.hills, chance);
-                }
-            },
-        },
-        4 => {
-            let posts = if reading { (call.file.len() - 7) / 4 } else { call.heights.len() };
-            let places = [chance.below(posts), chance.below(posts)];
-            for place in places {
-                if reading {
-                    let tenths = chance.of(&[10_000_001, -10_000_001, i32::MAX, i32::MIN]);
-                    call.file[7 + 4 * place..][..4].copy_from_slice(&tenths.to_be_bytes());
-                } else {
-                    call.heights[place] = chance.of(&BAD_HEIGHTS);
-                }
-            }
-            return places[0].min(places[1]) as u32;
-        }
-        5 => {
-            let posts = call.heights.len() as u32;
-            call.post = chance.of(&[posts, posts + 1, 65535, 65536, 1 << 31, u32::MAX]);
-        }
+        3 => spoil_lists(call, chance),
+        4 => return spoil_heights(call, chance),
+        5 => call.post = chance.of(&[posts, posts + 1, 65535, 65536, 1 << 31, u32::MAX]),
         6 => call.height = chance.of(&BAD_HEIGHTS),
         7 => {
-            let plot = Plot {
-                rows: call.rows as usize,
-                columns: call.columns as usize,
-                heights: &call.heights,
-            };
+            let (rows, columns) = (call.rows as usize, call.columns as usize);
+            let plot = Plot { rows, columns, heights: &call.heights };
             let others: Vec<usize> = (0..plot.posts()).filter(|&p| !plot.is_saddle(p)).collect();
             call.post = chance.of(&others) as u32;
         }
         8 => call.run += chance.of(&[4, 5, 1 << 16, u32::MAX - 4]),
         9 => {
-            let mut full = call.clone();
-            let count = full.by_opinion()[2] as usize;
+            let count = call.clone().by_opinion()[2] as usize;
             call.line.truncate(chance.of(&[0, 1, count - 1]));
         }
         10 => call.file.truncate(chance.below(7)),
         11 => call.file[0] = chance.of(&[0, 2, 3, 128, 255]),
-        12 => {
-            let stated = u32::from_be_bytes(call.file[1..5].try_into().unwrap());
-            let state =
-                |call: &mut Call, count: u32| call.file[1..5].copy_from_slice(&count.to_be_bytes());
-            match chance.below(7) {
-                0 => state(call, stated + 1),
-                1 => state(call, stated - 1),
-                2 => state(call, 0),
-                3 => state(call, stated | 1 << 31),
-                4 => call.file.push(0),
-                5 => drop(call.file.pop()),
-                _ => {
-                    // Stated and present agree, and the count rule is broken.
-                    call.file.extend([0; 4]);
-                    state(call, stated + 4);
-                }
-            }
-        }
+        12 => spoil_count(call, chance),
         _ => panic!("no such row: {row}"),
     }
     0
+}
+
+/// Spoils one side, or both; of a file, the byte of one.
+fn spoil_sides(call: &mut Call, chance: &mut Chance) {
+    if call.kind == Kind::ReadSurvey {
+        let at = 5 + chance.below(2);
+        call.file[at] = chance.of(&[0, 1, 121, 122, 255]);
+        return;
+    }
+    let side = chance.of(&BAD_SIDES);
+    let both = chance.one_in(3);
+    if both || chance.one_in(2) {
+        call.rows = side;
+    } else {
+        call.columns = side;
+    }
+    if both {
+        call.columns = chance.of(&BAD_SIDES);
+    }
+}
+
+/// Resizes what is lent beside the heights, or the heights that a file is read into.
+fn spoil_lists(call: &mut Call, chance: &mut Chance) {
+    match call.kind {
+        Kind::Survey | Kind::Reshoot => resize(&mut call.marks, chance),
+        Kind::WriteSurvey => resize(&mut call.file, chance),
+        Kind::ReadSurvey => resize(&mut call.heights, chance),
+        _ => match chance.below(3) {
+            0 => resize(&mut call.dales, chance),
+            1 => resize(&mut call.hills, chance),
+            _ => {
+                resize(&mut call.dales, chance);
+                resize(&mut call.hills, chance);
+            }
+        },
+    }
+}
+
+/// Spoils two heights, or one twice, and gives the first one's place.
+fn spoil_heights(call: &mut Call, chance: &mut Chance) -> u32 {
+    let reading = call.kind == Kind::ReadSurvey;
+    let posts = if reading { (call.file.len() - 7) / 4 } else { call.heights.len() };
+    let places = [chance.below(posts), chance.below(posts)];
+    for place in places {
+        if reading {
+            let tenths = chance.of(&[10_000_001, -10_000_001, i32::MAX, i32::MIN]);
+            call.file[7 + 4 * place..][..4].copy_from_slice(&tenths.to_be_bytes());
+        } else {
+            call.heights[place] = chance.of(&BAD_HEIGHTS);
+        }
+    }
+    places[0].min(places[1]) as u32
+}
+
+/// Makes the stated count differ from the bytes present or from the sides.
+fn spoil_count(call: &mut Call, chance: &mut Chance) {
+    let mut stated = u32::from_be_bytes(call.file[1..5].try_into().unwrap());
+    match chance.below(7) {
+        0 => stated += 1,
+        1 => stated -= 1,
+        2 => stated = 0,
+        3 => stated |= 1 << 31,
+        4 => call.file.push(0),
+        5 => drop(call.file.pop()),
+        _ => {
+            // Stated and present agree, and the count rule is broken.
+            call.file.extend([0; 4]);
+            stated += 4;
+        }
+    }
+    call.file[1..5].copy_from_slice(&stated.to_be_bytes());
 }
 
 /// For every call, every set of refusals at once, the empty one included.
@@ -135,7 +143,7 @@ pub fn refusals(t: &mut Tester, chance: &mut Chance, times: usize) {
                     place = spoil(&mut call, row, chance);
                 }
                 let code = rows.first().copied().unwrap_or(0);
-                let outcome = t.agree(&call).and_then(|(answer, left)| {
+                t.case(t.agree(&call).and_then(|(answer, left)| {
                     law(answer[0] == code, "the upper row wins", &call)?;
                     law(answer[1] == place, "the place", &call)?;
                     if code != 0 {
@@ -143,8 +151,7 @@ pub fn refusals(t: &mut Tester, chance: &mut Chance, times: usize) {
                         law(left == call, "no list changes", &call)?;
                     }
                     Ok(())
-                });
-                t.case(outcome);
+                }));
             }
         }
     }

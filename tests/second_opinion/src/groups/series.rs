@@ -3,8 +3,8 @@
 use super::good;
 use super::refusals::spoil;
 use super::whole_plots::whole_plot;
-use crate::call::Kind;
-use crate::plots::{ground, Chance, GROUNDS};
+use crate::call::{Call, Kind};
+use crate::plots::{any_plot, ground, Chance, GROUNDS};
 use crate::surface::{counts, Plot};
 use crate::tester::{law, Outcome, Tester};
 
@@ -21,29 +21,15 @@ fn one_series(
     let mut plain = ground(kind, rows, columns, chance);
     let (_, mut sheet) = t.agree(&good(Kind::Survey, rows, columns, &plain, chance))?;
     let start = chance.below(rows * columns);
-    let near = chance.one_in(2);
+    let near = chance.one_in(2).then_some(start);
     let mut accepted = 0;
     for _ in 0..length {
         let mut call = good(Kind::Reshoot, rows, columns, &sheet.heights, chance);
-        call.marks = sheet.marks.clone();
-        if near {
-            // Stay about one post, so that the blocks overlap.
-            call.post =
-                ((start + chance.below(3) * columns + chance.below(3)) % plain.len()) as u32;
-        }
-        if chance.one_in(2) {
-            call.height = plain[chance.below(plain.len())];
-        }
+        call.marks = sheet.marks;
+        choose_post_and_height(&mut call, near, chance);
         let bad = chance.one_in(3);
         if bad {
-            // Anything but the two lists.
-            match chance.below(5) {
-                0 => drop(spoil(&mut call, 1, chance)),
-                1 => drop(spoil(&mut call, 5, chance)),
-                2 => drop(spoil(&mut call, 6, chance)),
-                3 => call.rows = if rows == 120 { rows - 1 } else { rows + 1 } as u32,
-                _ => (call.rows, call.height) = (chance.next() as u32 | 128, chance.next() as i32),
-            }
+            spoil_values(&mut call, chance);
         } else {
             plain[call.post as usize] = call.height;
             accepted += 1;
@@ -63,25 +49,45 @@ fn one_series(
     whole_plot(t, rows, columns, &sheet.heights, 20, chance)
 }
 
+/// The post and height of a good re-shoot.
+fn choose_post_and_height(call: &mut Call, near: Option<usize>, chance: &mut Chance) {
+    let posts = call.heights.len();
+    if let Some(start) = near {
+        // Stay about one post, so that the blocks overlap.
+        let post = start + chance.below(3) * call.columns as usize + chance.below(3);
+        call.post = (post % posts) as u32;
+    }
+    if chance.one_in(2) {
+        call.height = call.heights[chance.below(posts)];
+    }
+}
+
+/// Makes a re-shoot bad in anything but its two lists.
+fn spoil_values(call: &mut Call, chance: &mut Chance) {
+    match chance.below(5) {
+        0 => drop(spoil(call, 1, chance)),
+        1 => drop(spoil(call, 5, chance)),
+        2 => drop(spoil(call, 6, chance)),
+        3 => call.rows = if call.rows == 120 { 119 } else { call.rows + 1 },
+        _ => (call.rows, call.height) = (chance.next() as u32 | 128, chance.next() as i32),
+    }
+}
+
 pub fn series(t: &mut Tester, chance: &mut Chance, times: usize) {
     t.group("series of re-shoots");
     for i in 0..60 * times {
         let (rows, columns) = (2 + chance.below(9), 2 + chance.below(9));
-        let outcome = one_series(t, rows, columns, if i == 0 { 0 } else { 200 }, chance);
-        t.case(outcome);
+        t.case(one_series(t, rows, columns, if i == 0 { 0 } else { 200 }, chance));
     }
     for (rows, columns) in [(120, 120), (2, 120), (120, 2), (2, 2)] {
-        let outcome = one_series(t, rows, columns, 100, chance);
-        t.case(outcome);
+        t.case(one_series(t, rows, columns, 100, chance));
     }
 }
 
 pub fn never_surveyed(t: &mut Tester, chance: &mut Chance, times: usize) {
     t.group("re-shoots with marks that were never a survey's");
     for i in 0..times {
-        let (rows, columns) = (2 + chance.below(7), 2 + chance.below(7));
-        let heights = ground(GROUNDS[i % GROUNDS.len()], rows, columns, chance);
-        let outcome = t.agree(&good(Kind::Reshoot, rows, columns, &heights, chance)).map(drop);
-        t.case(outcome);
+        let (rows, columns, heights) = any_plot(i, 8, chance);
+        t.case(t.agree(&good(Kind::Reshoot, rows, columns, &heights, chance)).map(drop));
     }
 }

@@ -3,7 +3,7 @@
 use super::{good, WAYS};
 use crate::call::{Call, Kind};
 use crate::opinion::in_one_piece;
-use crate::plots::{ground, Chance, GROUNDS};
+use crate::plots::{any_plot, ground, Chance, GROUNDS};
 use crate::surface::{Plot, Way, VIRTUAL_PIT};
 use crate::tester::{law, Outcome, Tester};
 
@@ -19,59 +19,81 @@ pub fn whole_plot(
 ) -> Outcome {
     let plot = Plot { rows, columns, heights };
     let posts = plot.posts();
-
-    let survey = good(Kind::Survey, rows, columns, heights, chance);
-    let (answer, left) = t.agree(&survey)?;
-    let marks = left.marks;
-    law(answer[0] == 0, "a survey is accepted", &survey)?;
-    law(answer[2] + answer[3] == answer[4] + 2, "peaks + pits - saddles = 2", &survey)?;
-
-    let parting = good(Kind::DalesAndHills, rows, columns, heights, chance);
-    let (answer, left) = t.agree(&parting)?;
-    let names = [left.dales, left.hills];
-    law(answer[0] == 0, "dales and hills are accepted", &parting)?;
-    for (list, mark, (way, ..)) in [(&names[0], 2, WAYS[0]), (&names[1], 1, WAYS[1])] {
-        let mut named: Vec<usize> = list.iter().map(|&v| v as usize).collect();
-        named.sort();
-        named.dedup();
-        let mut ends: Vec<usize> = (0..posts).filter(|&p| marks[p] == mark).collect();
-        if way == Way::Down {
-            ends.push(VIRTUAL_PIT);
-        }
-        law(named == ends, "names are exactly the pits or peaks", &parting)?;
-        law(in_one_piece(&plot, list, way), "dales and hills are in one piece", &parting)?;
-    }
-
+    let marks = survey(t, &plot, chance)?;
+    let parted = parting(t, &plot, &marks, chance)?;
     let mut asked: Vec<usize> = (0..posts).collect();
     if posts > most {
         asked = (0..most).map(|_| chance.below(posts)).collect();
     }
-    for ((way, next, line), names) in WAYS.into_iter().zip(&names) {
-        let mut walks = vec![None; posts];
-        let mut call = good(next, rows, columns, heights, chance);
-        for &post in &asked {
-            call.post = post as u32;
-            let (answer, _) = t.agree(&call)?;
-            let then = answer[2] as usize;
-            let moves =
-                if way == Way::Down { plot.below(then, post) } else { plot.below(post, then) };
-            law(moves || then == post, "a step falls or rises", &call)?;
-            walks[post] = Some(then);
-        }
+    for ((way, next, line), names) in WAYS.into_iter().zip([&parted.dales, &parted.hills]) {
+        let steps = next_posts(t, &plot, way, good(next, rows, columns, heights, chance), &asked)?;
         if asked.len() == posts {
-            for post in 0..posts {
-                let mut end = post;
-                while end != VIRTUAL_PIT && walks[end] != Some(end) {
-                    end = walks[end].unwrap();
-                }
-                law(end == names[post] as usize, "the walk ends at the name", &parting)?;
-            }
+            walks_end_at(names, &steps, &parted)?;
         }
         let call = good(line, rows, columns, heights, chance);
         for &post in &asked {
             let call = Call { post: post as u32, ..call.clone() };
             lines_of(t, &plot, way, call, marks[post])?;
         }
+    }
+    Ok(())
+}
+
+/// The marks of a survey, in balance.
+fn survey(t: &Tester, plot: &Plot, chance: &mut Chance) -> Result<Vec<u8>, String> {
+    let call = good(Kind::Survey, plot.rows, plot.columns, plot.heights, chance);
+    let (answer, left) = t.agree(&call)?;
+    law(answer[0] == 0, "a survey is accepted", &call)?;
+    law(answer[2] + answer[3] == answer[4] + 2, "peaks + pits - saddles = 2", &call)?;
+    Ok(left.marks)
+}
+
+/// The dales and hills, named by the marked pits and peaks, each in one piece.
+fn parting(t: &Tester, plot: &Plot, marks: &[u8], chance: &mut Chance) -> Result<Call, String> {
+    let call = good(Kind::DalesAndHills, plot.rows, plot.columns, plot.heights, chance);
+    let (answer, left) = t.agree(&call)?;
+    law(answer[0] == 0, "dales and hills are accepted", &call)?;
+    for (names, mark, way) in [(&left.dales, 2, Way::Down), (&left.hills, 1, Way::Up)] {
+        let mut named: Vec<usize> = names.iter().map(|&v| v as usize).collect();
+        named.sort();
+        named.dedup();
+        let mut ends: Vec<usize> = (0..plot.posts()).filter(|&p| marks[p] == mark).collect();
+        if way == Way::Down {
+            ends.push(VIRTUAL_PIT);
+        }
+        law(named == ends, "names are exactly the pits or peaks", &call)?;
+        law(in_one_piece(plot, names, way), "dales and hills are in one piece", &call)?;
+    }
+    Ok(left)
+}
+
+/// The next post of each that is asked.
+fn next_posts(
+    t: &Tester,
+    plot: &Plot,
+    way: Way,
+    mut call: Call,
+    asked: &[usize],
+) -> Result<Vec<usize>, String> {
+    let mut steps = Vec::new();
+    for &post in asked {
+        call.post = post as u32;
+        let (answer, _) = t.agree(&call)?;
+        let then = answer[2] as usize;
+        law(plot.moves(way, post, then) || then == post, "a step falls or rises", &call)?;
+        steps.push(then);
+    }
+    Ok(steps)
+}
+
+/// Walks by the steps of all posts end at the posts' dales or hills.
+fn walks_end_at(names: &[u16], steps: &[usize], parted: &Call) -> Outcome {
+    for (post, &name) in names.iter().enumerate() {
+        let mut end = post;
+        while end != VIRTUAL_PIT && steps[end] != end {
+            end = steps[end];
+        }
+        law(end == name as usize, "the walk ends at the name", parted)?;
     }
     Ok(())
 }
@@ -92,11 +114,7 @@ fn lines_of(t: &Tester, plot: &Plot, way: Way, mut call: Call, mark: u8) -> Outc
         let count = answer[2] as usize;
         let line: Vec<usize> = left.line[..count].iter().map(|&v| v as usize).collect();
         for pair in line.windows(2) {
-            let moves = if way == Way::Down {
-                plot.below(pair[1], pair[0])
-            } else {
-                plot.below(pair[0], pair[1])
-            };
+            let moves = plot.moves(way, pair[0], pair[1]);
             law(moves, "a line falls or rises at every step", &call)?;
         }
         let end = line[count - 1];
@@ -129,8 +147,7 @@ pub fn exhaustive(t: &mut Tester, chance: &mut Chance, long: bool) {
         for number in 0..(levels as u32).pow(posts as u32) {
             let digit = |p: usize| (number / (levels as u32).pow(p as u32)) as i32 % levels;
             let heights: Vec<i32> = (0..posts).map(digit).collect();
-            let outcome = whole_plot(t, rows, columns, &heights, posts, chance);
-            t.case(outcome);
+            t.case(whole_plot(t, rows, columns, &heights, posts, chance));
         }
     }
 }
@@ -138,10 +155,8 @@ pub fn exhaustive(t: &mut Tester, chance: &mut Chance, long: bool) {
 pub fn small_random(t: &mut Tester, chance: &mut Chance, times: usize) {
     t.group("plots up to 12 by 12 by chance");
     for i in 0..times {
-        let (rows, columns) = (2 + chance.below(11), 2 + chance.below(11));
-        let heights = ground(GROUNDS[i % GROUNDS.len()], rows, columns, chance);
-        let outcome = whole_plot(t, rows, columns, &heights, 40, chance);
-        t.case(outcome);
+        let (rows, columns, heights) = any_plot(i, 12, chance);
+        t.case(whole_plot(t, rows, columns, &heights, 40, chance));
     }
 }
 
@@ -153,8 +168,7 @@ pub fn large_random(t: &mut Tester, chance: &mut Chance, times: usize) {
             sizes.extend([(); 4].map(|()| (2 + chance.below(119), 2 + chance.below(119))));
             for (rows, columns) in sizes {
                 let heights = ground(kind, rows, columns, chance);
-                let outcome = whole_plot(t, rows, columns, &heights, 30, chance);
-                t.case(outcome);
+                t.case(whole_plot(t, rows, columns, &heights, 30, chance));
             }
         }
     }
@@ -170,8 +184,7 @@ pub fn every_post(t: &mut Tester, chance: &mut Chance, long: bool) {
     for (rows, columns) in sizes {
         for kind in GROUNDS {
             let heights = ground(kind, rows, columns, chance);
-            let outcome = whole_plot(t, rows, columns, &heights, rows * columns, chance);
-            t.case(outcome);
+            t.case(whole_plot(t, rows, columns, &heights, rows * columns, chance));
         }
     }
     // The spirals are what they are meant to be: long walks.
