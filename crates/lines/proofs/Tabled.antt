@@ -9,7 +9,7 @@ use lib.Dec.{ltb}
 use lib.IntN.{ℤ}
 use lib.ListN.{length, getD, drop}
 use Rattle.surface.specs.Lists.{any, all, takeWhile}
-use Rattle.surface.specs.Plot.{isHeight, below}
+use Rattle.surface.specs.Plot.{Plot, posts, below, isHeight}
 use Rattle.surface.specs.Edges.{lowest, runs}
 use Rattle.surface.specs.Marks.{ringOf, markFor, mark, markAt}
 use Rattle.surface.specs.Refusals.{Row, verdict, row1, row2, row4, row5}
@@ -44,37 +44,37 @@ still-refuses r rest h = go (r .holds) h
     go false h = absurd (h refl)
 
 -- rows 1, 2, 4 and 5
-module _ (rows columns : ℕ) (hs : List ℤ) (post : ℕ) where
-  pub placed-size : (code : ℕ) → Sized rows columns hs code → (code ≡ 0 → ⊥) → Placed rows columns hs post (record { code = code; place = 0 })
+module _ (pl : Plot) (post : ℕ) where
+  pub placed-size : (code : ℕ) → Sized pl code → (code ≡ 0 → ⊥) → Placed pl post (record { code = code; place = 0 })
   placed-size code s h = record { refuses = λ n rest. s .refuses h _; passes = λ e. absurd (h e); levelled = λ e. absurd (h e) }
 
-  module _ (s : Sized rows columns hs 0) where
-    pub placed-range : (answer (verdict (row4 isHeight hs ∷ [])) .code ≡ 0 → ⊥) → Placed rows columns hs post (answer (verdict (row4 isHeight hs ∷ [])))
+  module _ (s : Sized pl 0) where
+    pub placed-range : (answer (verdict (row4 isHeight pl.heights ∷ [])) .code ≡ 0 → ⊥) → Placed pl post (answer (verdict (row4 isHeight pl.heights ∷ [])))
     placed-range h =
         record {
-          refuses = λ n rest. s .passes refl _ ∙ still-refuses (row4 isHeight hs) _ h;
+          refuses = λ n rest. s .passes refl _ ∙ still-refuses (row4 isHeight pl.heights) _ h;
           passes = λ e. absurd (h e);
           levelled = λ e. absurd (h e);
         }
 
     -- after row 4
-    past : answer (verdict (row4 isHeight hs ∷ [])) .code ≡ 0 → (rest : List Row) → verdict (row1 rows columns ∷ row2 rows columns hs ∷ row4 isHeight hs ∷ rest) ≡ verdict rest
-    past h rest = s .passes refl _ ∙ row-passed (row4 isHeight hs) rest (accepted-clear (row4 isHeight hs ∷ []) tt h .0)
+    past : answer (verdict (row4 isHeight pl.heights ∷ [])) .code ≡ 0 → (rest : List Row) → verdict (row1 pl.rows pl.columns ∷ row2 pl ∷ row4 isHeight pl.heights ∷ rest) ≡ verdict rest
+    past h rest = s .passes refl _ ∙ row-passed (row4 isHeight pl.heights) rest (accepted-clear (row4 isHeight pl.heights ∷ []) tt h .0)
 
-    pub placed-post : answer (verdict (row4 isHeight hs ∷ [])) .code ≡ 0 → rows * columns ≤ post → Placed rows columns hs post (record { code = 5; place = 0 })
+    pub placed-post : answer (verdict (row4 isHeight pl.heights ∷ [])) .code ≡ 0 → posts pl ≤ post → Placed pl post (record { code = 5; place = 0 })
     placed-post h k =
         record {
-          refuses = λ n rest. past h _ ∙ row-holds (row5 rows columns post) rest (ap not (le-ltb post (rows * columns) k));
+          refuses = λ n rest. past h _ ∙ row-holds (row5 pl.rows pl.columns post) rest (ap not (le-ltb post (posts pl) k));
           passes = λ e. absurd (omega arith);
           levelled = λ e. absurd (omega arith);
         }
 
-    pub placed-all : answer (verdict (row4 isHeight hs ∷ [])) .code ≡ 0 → post < rows * columns → Placed rows columns hs post (record { code = 0; place = 0 })
+    pub placed-all : answer (verdict (row4 isHeight pl.heights ∷ [])) .code ≡ 0 → post < posts pl → Placed pl post (record { code = 0; place = 0 })
     placed-all h k =
         record {
           refuses = λ n. absurd (n refl);
-          passes = λ e rest. past h _ ∙ row-passed (row5 rows columns post) rest (ap not (lt-ltb post (rows * columns) k));
-          levelled = λ _. (record { fits = s .fits refl; inRange = in-range hs h }, k);
+          passes = λ e rest. past h _ ∙ row-passed (row5 pl.rows pl.columns post) rest (ap not (lt-ltb post (posts pl) k));
+          levelled = λ _. (record { fits = s .fits refl; inRange = in-range pl.heights h }, k);
         }
 
 -- a saddle has neighbours below and above
@@ -97,28 +97,28 @@ unfolding all
 all-some s [] h = absurd (true≢false h)
 all-some s (x ∷ l) h = omega arith
 
-module _ {rows columns : ℕ} {hs : List ℤ} (fits : Fits rows columns hs) (up : Bool) (p : ℕ) (post : p < rows * columns) where
+module _ {pl : Plot} (fits : Fits pl) (up : Bool) (p : ℕ) (post : p < posts pl) where
   abbrev low : ℕ → Bool
-  low q = toward hs up q p
+  low q = toward pl.heights up q p
 
   abbrev ring : List ℕ
-  ring = ringOf rows columns hs p
+  ring = ringOf pl p
 
-  above : (markAt rows columns hs p < 3 → ⊥) → any (λ q. toward hs up p q) ring ≡ true
+  above : (markAt pl p < 3 → ⊥) → any (λ q. toward pl.heights up p q) ring ≡ true
   unfolding markAt mark
   above h = go up
     where
-      both : (any (λ q. below hs p q) ring ≡ true) × (any (λ q. below hs q p) ring ≡ true)
-      both = saddle (any (λ q. below hs p q) ring) (any (λ q. below hs q p) ring) _ h
+      both : (any (λ q. below pl p q) ring ≡ true) × (any (λ q. below pl q p) ring ≡ true)
+      both = saddle (any (λ q. below pl p q) ring) (any (λ q. below pl q p) ring) _ h
 
-      go : (up : Bool) → any (λ q. toward hs up p q) ring ≡ true
+      go : (up : Bool) → any (λ q. toward pl.heights up p q) ring ≡ true
       go true = both .1
       go false = both .0
 
-  mixed : (markAt rows columns hs p < 3 → ⊥) → all low ring ≡ false
-  mixed h = not-true (all low ring) (sym (any-above (toward hs up) (toward-strict hs up) p ring (λ q m. others fits p q post m)) ∙ above h)
+  mixed : (markAt pl p < 3 → ⊥) → all low ring ≡ false
+  mixed h = not-true (all low ring) (sym (any-above (toward pl.heights up) (toward-strict pl.heights up) p ring (λ q m. others fits p q post m)) ∙ above h)
 
-  pub round : (r : Ring) → (markAt rows columns hs p < 3 → ⊥) → Held r ring → Round hs up p r
+  pub round : (r : Ring) → (markAt pl p < 3 → ⊥) → Held r ring → Round pl.heights up p r
   round r h k =
       record {
         small = omega (arith, few fits, fits .size);
@@ -130,7 +130,7 @@ module _ {rows columns : ℕ} {hs : List ℤ} (fits : Fits rows columns hs) (up 
         mixed = rw (k .members) (mixed h);
       }
 
-  pub started-7 : (run : ℕ) → markAt rows columns hs p < 3 → Started rows columns hs up p run (record { code = 7; post = 0 })
+  pub started-7 : (run : ℕ) → markAt pl p < 3 → Started pl up p run (record { code = 7; post = 0 })
   started-7 run h =
       record {
         refuses = λ n rest. row-holds _ _ (lt-ltb _ 3 h);
@@ -139,11 +139,11 @@ module _ {rows columns : ℕ} {hs : List ℤ} (fits : Fits rows columns hs) (up 
         vertex = λ e. absurd (omega arith);
       }
 
-  module _ (run place : ℕ) (h : markAt rows columns hs p < 3 → ⊥) (k : StartsAt low ring run place) where
-    past-7 : ltb (markAt rows columns hs p) 3 ≡ false
-    past-7 = either (ltb (markAt rows columns hs p) 3) (λ e. absurd (h (ltb-true _ 3 e))) (λ e. e)
+  module _ (run place : ℕ) (h : markAt pl p < 3 → ⊥) (k : StartsAt low ring run place) where
+    past-7 : ltb (markAt pl p) 3 ≡ false
+    past-7 = either (ltb (markAt pl p) 3) (λ e. absurd (h (ltb-true _ 3 e))) (λ e. e)
 
-    pub started-8 : length ring ≤ place → Started rows columns hs up p run (record { code = 8; post = 0 })
+    pub started-8 : length ring ≤ place → Started pl up p run (record { code = 8; post = 0 })
     started-8 m =
         record {
           refuses = λ n rest. row-passed _ _ past-7 ∙ row-holds _ _ (ap not (le-ltb run _ (k .none m)));
@@ -152,15 +152,15 @@ module _ {rows columns : ℕ} {hs : List ℤ} (fits : Fits rows columns hs) (up 
           vertex = λ e. absurd (omega arith);
         }
 
-    pub started-0 : place < length ring → (q : ℕ) → q ≡ lowest (toward hs up) (takeWhile low (drop place (ring ++ ring)))
-        → Started rows columns hs up p run (record { code = 0; post = q })
+    pub started-0 : place < length ring → (q : ℕ) → q ≡ lowest (toward pl.heights up) (takeWhile low (drop place (ring ++ ring)))
+        → Started pl up p run (record { code = 0; post = q })
     started-0 m q e =
         let r = runs-run low ring run (k .numbered m) in
-        let i : q ≡ lowest (toward hs up) (getD (runs low ring) run []) = e ∙ ap (lowest (toward hs up)) (sym (k .run m)) in
-        let v = descent fits up .ringVertex p _ post (r .member _ (lowest-member (toward hs up) (r .some) _ (r .there)) .0) in
+        let i : q ≡ lowest (toward pl.heights up) (getD (runs low ring) run []) = e ∙ ap (lowest (toward pl.heights up)) (sym (k .run m)) in
+        let v = descent fits up .ringVertex p _ post (r .member _ (lowest-member (toward pl.heights up) (r .some) _ (r .there)) .0) in
         record {
           refuses = λ n. absurd (n refl);
           passes = λ _ rest. row-passed _ _ past-7 ∙ row-passed _ _ (ap not (lt-ltb run _ (k .numbered m)));
           starts = λ _. i;
-          vertex = λ _. subst (Vertex (rows * columns)) (sym i) v;
+          vertex = λ _. subst (Vertex (posts pl)) (sym i) v;
         }

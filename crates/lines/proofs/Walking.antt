@@ -8,9 +8,8 @@ use mathlib.Core.List.{List, [], _∷_, List·Memᴰ}
 use lib.IntN.{ℤ}
 use lib.ListN.{length, set}
 use Rattle.surface.specs.Lists.{listOf}
-use Rattle.surface.specs.Plot.{virtualPit, below}
-use Rattle.surface.specs.Edges.{throughLowest}
-use Rattle.surface.specs.Marks.{ringOf}
+use Rattle.surface.specs.Plot.{Plot, posts, virtualPit}
+use Rattle.surface.specs.Marks.{fallsIn, ringOf}
 use Rattle.surface.specs.Lines.{lowestOf}
 use Rattle.surface.proofs.Bools.{either}
 use Rattle.surface.proofs.Order.{rank}
@@ -26,63 +25,63 @@ use Rattle.plot.proofs.Descents.{fit, descent}
 use Rattle.lines.specs.Directed.{isEndOf, nextOf, walkOf, entryOf}
 use Rattle.lines.specs.declared.walk.Walk.{Walk}
 
-module _ {rows columns : ℕ} {hs : List ℤ} (fits : Fits rows columns hs) where
-  pub vertex-post : (p : ℕ) → Vertex (rows * columns) p → (p ≡ 65535 → ⊥) → p < rows * columns
+module _ {pl : Plot} (fits : Fits pl) where
+  pub vertex-post : (p : ℕ) → Vertex (posts pl) p → (p ≡ 65535 → ⊥) → p < posts pl
   unfolding virtualPit
-  vertex-post p v h = ⊎-elim (λ (k : p < rows * columns). k) (λ (k : p ≡ virtualPit). absurd (h k)) v
+  vertex-post p v h = ⊎-elim (λ (k : p < posts pl). k) (λ (k : p ≡ virtualPit). absurd (h k)) v
 
-  pub others : (p q : ℕ) → p < rows * columns → List·Memᴰ q (ringOf rows columns hs p) → q ≡ p → ⊥
+  pub others : (p q : ℕ) → p < posts pl → List·Memᴰ q (ringOf pl p) → q ≡ p → ⊥
   unfolding ringOf
-  others p q = ring-other (fits-sides fits) (throughLowest (below hs) columns) (fit fits) p q
+  others p q = ring-other (fits-sides fits) (fallsIn pl) (fit fits) p q
 
   module _ (up : Bool) where
     -- a walk stays exactly at an end
-    pub stays : (p : ℕ) → Vertex (rows * columns) p → nextOf rows columns hs up p ≡ p → isEndOf rows columns hs up p ≡ true
+    pub stays : (p : ℕ) → Vertex (posts pl) p → nextOf pl up p ≡ p → isEndOf pl up p ≡ true
     stays p v h =
-        either (isEndOf rows columns hs up p) (λ e. e)
+        either (isEndOf pl up p) (λ e. e)
         (λ e.
-        absurd (true≢false (sym (next-step (descent fits up) p v e .falls) ∙ ap (λ (q : ℕ). toward hs up q p) h ∙ toward-strict hs up .irrefl p)))
+        absurd (true≢false (sym (next-step (descent fits up) p v e .falls) ∙ ap (λ (q : ℕ). toward pl.heights up q p) h ∙ toward-strict pl.heights up .irrefl p)))
 
-    pub moves : (p : ℕ) → (nextOf rows columns hs up p ≡ p → ⊥) → isEndOf rows columns hs up p ≡ false
-    moves p h = either (isEndOf rows columns hs up p) (λ e. absurd (h (next-stop (descent fits up) p e))) (λ e. e)
+    pub moves : (p : ℕ) → (nextOf pl up p ≡ p → ⊥) → isEndOf pl up p ≡ false
+    moves p h = either (isEndOf pl up p) (λ e. absurd (h (next-stop (descent fits up) p e))) (λ e. e)
 
-    pub next-pit : (p : ℕ) → p ≡ 65535 → nextOf rows columns hs up p ≡ p
+    pub next-pit : (p : ℕ) → p ≡ 65535 → nextOf pl up p ≡ p
     unfolding virtualPit
-    next-pit p e = next-stop (descent fits up) p (ap (isEndOf rows columns hs up) e ∙ pit-stop (descent fits up))
+    next-pit p e = next-stop (descent fits up) p (ap (isEndOf pl up) e ∙ pit-stop (descent fits up))
 
-    length-end : (p : ℕ) → Vertex (rows * columns) p → isEndOf rows columns hs up p ≡ true → length (walkOf rows columns hs up p) ≡ 1
+    length-end : (p : ℕ) → Vertex (posts pl) p → isEndOf pl up p ≡ true → length (walkOf pl up p) ≡ 1
     length-end p v e = rw (walk-next (descent fits up) p v, e)
 
-    length-more : (p : ℕ) → Vertex (rows * columns) p → isEndOf rows columns hs up p ≡ false
-        → length (walkOf rows columns hs up p) ≡ 1 + length (walkOf rows columns hs up (nextOf rows columns hs up p))
+    length-more : (p : ℕ) → Vertex (posts pl) p → isEndOf pl up p ≡ false
+        → length (walkOf pl up p) ≡ 1 + length (walkOf pl up (nextOf pl up p))
     length-more p v e = rw (walk-next (descent fits up) p v, e) (omega arith)
 
-    walk-some : (p : ℕ) → Vertex (rows * columns) p → 1 ≤ length (walkOf rows columns hs up p)
+    walk-some : (p : ℕ) → Vertex (posts pl) p → 1 ≤ length (walkOf pl up p)
     walk-some p v = rw (walk-next (descent fits up) p v) (omega arith)
 
-    pub length-low : (p : ℕ) → length (walkOf rows columns hs up p) ≤ 14401
-    length-low p = omega (arith, walk-low (toward hs up) (ringOf rows columns hs) (lowestOf (toward hs up)) (rows * columns) p, few fits)
+    pub length-low : (p : ℕ) → length (walkOf pl up p) ≤ 14401
+    length-low p = omega (arith, walk-low (toward pl.heights up) (ringOf pl) (lowestOf (toward pl.heights up)) (posts pl) p, few fits)
 
 -- a walk that has come from one post to another, and counted those it went by
-pub record Along (rows columns : ℕ) (hs : List ℤ) (from at : Walk) (entries : ℕ) : Type 0 where
-  pub vertex : Vertex (rows * columns) (at .post)
+pub record Along (pl : Plot) (from at : Walk) (entries : ℕ) : Type 0 where
+  pub vertex : Vertex (posts pl) (at .post)
   pub same : at .up ≡ from .up
-  pub counted : entries + length (walkOf rows columns hs (from .up) (at .post)) ≡ 1 + length (walkOf rows columns hs (from .up) (from .post))
+  pub counted : entries + length (walkOf pl (from .up) (at .post)) ≡ 1 + length (walkOf pl (from .up) (from .post))
 
-module _ {rows columns : ℕ} {hs : List ℤ} (fits : Fits rows columns hs) where
+module _ {pl : Plot} (fits : Fits pl) where
   abbrev onward : Walk → Walk
-  onward at = record { post = nextOf rows columns hs (at .up) (at .post); up = at .up }
+  onward at = record { post = nextOf pl (at .up) (at .post); up = at .up }
 
-  pub along-none : (from : Walk) → Vertex (rows * columns) (from .post) → Along rows columns hs from from 1
+  pub along-none : (from : Walk) → Vertex (posts pl) (from .post) → Along pl from from 1
   along-none from v = record { vertex = v; same = refl; counted = refl }
 
   -- the step is no end of the walk as it set out
-  on : {from at : Walk} {entries : ℕ} → Along rows columns hs from at entries → (nextOf rows columns hs (at .up) (at .post) ≡ at .post → ⊥)
-      → isEndOf rows columns hs (from .up) (at .post) ≡ false
+  on : {from at : Walk} {entries : ℕ} → Along pl from at entries → (nextOf pl (at .up) (at .post) ≡ at .post → ⊥)
+      → isEndOf pl (from .up) (at .post) ≡ false
   on {from} {at} a h = moves fits (from .up) (at .post) (rw (a .same) at h)
 
-  pub along-more : {from at : Walk} {entries : ℕ} → Along rows columns hs from at entries → (nextOf rows columns hs (at .up) (at .post) ≡ at .post → ⊥)
-      → Along rows columns hs from (onward at) (entries + 1)
+  pub along-more : {from at : Walk} {entries : ℕ} → Along pl from at entries → (nextOf pl (at .up) (at .post) ≡ at .post → ⊥)
+      → Along pl from (onward at) (entries + 1)
   along-more {from} {at} a h =
       record {
         vertex = next-vertex (descent fits (at .up)) (at .post) (a .vertex);
@@ -90,33 +89,33 @@ module _ {rows columns : ℕ} {hs : List ℤ} (fits : Fits rows columns hs) wher
         counted = rw (a .same) (omega (arith, a .counted, length-more fits (from .up) (at .post) (a .vertex) (on a h)));
       }
 
-  pub along-sinks : {from at : Walk} {entries : ℕ} → Along rows columns hs from at entries → (nextOf rows columns hs (at .up) (at .post) ≡ at .post → ⊥)
-      → rank (toward hs (from .up)) (rows * columns) (nextOf rows columns hs (at .up) (at .post)) < rank (toward hs (from .up)) (rows * columns) (at .post)
+  pub along-sinks : {from at : Walk} {entries : ℕ} → Along pl from at entries → (nextOf pl (at .up) (at .post) ≡ at .post → ⊥)
+      → rank (toward pl.heights (from .up)) (posts pl) (nextOf pl (at .up) (at .post)) < rank (toward pl.heights (from .up)) (posts pl) (at .post)
   along-sinks {from} {at} a h = rw (a .same) (next-step (descent fits (from .up)) (at .post) (a .vertex) (on a h) .sinks)
 
   -- what is counted are entries of the walk
-  pub along-low : {from at : Walk} {entries : ℕ} → Along rows columns hs from at entries → entries ≤ length (walkOf rows columns hs (from .up) (from .post))
+  pub along-low : {from at : Walk} {entries : ℕ} → Along pl from at entries → entries ≤ length (walkOf pl (from .up) (from .post))
   along-low {from} {at} a = omega (arith, a .counted, walk-some fits (from .up) (at .post) (a .vertex))
 
-  pub along-end : {from at : Walk} {entries : ℕ} → Along rows columns hs from at entries → nextOf rows columns hs (at .up) (at .post) ≡ at .post
-      → entries ≡ length (walkOf rows columns hs (from .up) (from .post))
+  pub along-end : {from at : Walk} {entries : ℕ} → Along pl from at entries → nextOf pl (at .up) (at .post) ≡ at .post
+      → entries ≡ length (walkOf pl (from .up) (from .post))
   along-end {from} {at} {entries} a h =
       omega (arith, a .counted, length-end fits (from .up) (at .post) (a .vertex) (stays fits (from .up) (at .post) (a .vertex) (rw (a .same) at h)))
 
 -- the entries of a line
-module _ (rows columns : ℕ) (hs : List ℤ) (up : Bool) (p q : ℕ) where
-  pub line-entries : p ∷ walkOf rows columns hs up q ≡ listOf (entryOf rows columns hs up p q) (1 + length (walkOf rows columns hs up q))
+module _ (pl : Plot) (up : Bool) (p q : ℕ) where
+  pub line-entries : p ∷ walkOf pl up q ≡ listOf (entryOf pl up p q) (1 + length (walkOf pl up q))
   unfolding entryOf
   line-entries =
-      let w = walkOf rows columns hs up q in
+      let w = walkOf pl up q in
       let e : 1 + length w ≡ suc (length w) = omega arith in
       rw e
-      (ap (λ (l : List ℕ). p ∷ l) (walk-list (toward hs up) (ringOf rows columns hs) (lowestOf (toward hs up)) (rows * columns) q)
-      ∙ sym (listOf-front (entryOf rows columns hs up p q) (length w)))
+      (ap (λ (l : List ℕ). p ∷ l) (walk-list (toward pl.heights up) (ringOf pl) (lowestOf (toward pl.heights up)) (posts pl) q)
+      ∙ sym (listOf-front (entryOf pl up p q) (length w)))
 
 -- one entry on is one step on
-pub entry-more : {rows columns : ℕ} {hs : List ℤ} → Fits rows columns hs → (up : Bool) (p q i : ℕ) → 1 ≤ i
-    → nextOf rows columns hs up (entryOf rows columns hs up p q i) ≡ entryOf rows columns hs up p q (i + 1)
+pub entry-more : {pl : Plot} → Fits pl → (up : Bool) (p q i : ℕ) → 1 ≤ i
+    → nextOf pl up (entryOf pl up p q i) ≡ entryOf pl up p q (i + 1)
 unfolding entryOf
 entry-more fits up p q zero h = absurd (omega arith)
 entry-more fits up p q (suc i) h = let e : suc i + 1 ≡ suc (suc i) = omega arith in rw e (sym (end-more (descent fits up) i q))

@@ -3,6 +3,7 @@ use Prim.Native.Nat.{ℕ, zero, suc, _*_}
 use mathlib.Core.Bool.{Bool}
 use mathlib.Core.List.{List}
 use lib.IntN.{ℤ}
+use Rattle.surface.specs.Plot.{Plot, posts}
 use Rattle.surface.specs.Edges.{lowerRuns}
 use Rattle.surface.specs.Marks.{ringOf}
 use Rattle.surface.specs.Lines.{isEnd, next, walk, end, line, lowestOf}
@@ -11,25 +12,25 @@ use Rattle.surface.specs.Calls.{nextAnswer}
 use Rattle.surface.specs.declared.Next.{Next}
 use Rattle.plot.specs.Scan.{toward}
 
-module _ (rows columns : ℕ) (hs : List ℤ) (up : Bool) where
+module _ (pl : Plot) (up : Bool) where
   abbrev pub isEndOf : ℕ → Bool
-  isEndOf = isEnd (toward hs up) (ringOf rows columns hs) (lowestOf (toward hs up))
+  isEndOf = isEnd (toward pl.heights up) (ringOf pl) (lowestOf (toward pl.heights up))
 
   abbrev pub nextOf : ℕ → ℕ
-  nextOf = next (toward hs up) (ringOf rows columns hs) (lowestOf (toward hs up))
+  nextOf = next (toward pl.heights up) (ringOf pl) (lowestOf (toward pl.heights up))
 
   -- where m steps lead
   abbrev pub after : ℕ → ℕ → ℕ
-  after = end (toward hs up) (ringOf rows columns hs) (lowestOf (toward hs up))
+  after = end (toward pl.heights up) (ringOf pl) (lowestOf (toward pl.heights up))
 
   abbrev pub walkOf : ℕ → List ℕ
-  walkOf = walk (toward hs up) (ringOf rows columns hs) (lowestOf (toward hs up)) (rows * columns)
+  walkOf = walk (toward pl.heights up) (ringOf pl) (lowestOf (toward pl.heights up)) (posts pl)
 
   abbrev pub runsOf : ℕ → List (List ℕ)
-  runsOf = lowerRuns (toward hs up) (ringOf rows columns hs)
+  runsOf = lowerRuns (toward pl.heights up) (ringOf pl)
 
   abbrev pub lineOf : ℕ → ℕ → List ℕ
-  lineOf = line (toward hs up) (ringOf rows columns hs) (lowestOf (toward hs up)) (rows * columns)
+  lineOf = line (toward pl.heights up) (ringOf pl) (lowestOf (toward pl.heights up)) (posts pl)
 
   -- the entries of a line from p by way of q
   unfoldable pub entryOf : ℕ → ℕ → ℕ → ℕ
@@ -37,7 +38,7 @@ module _ (rows columns : ℕ) (hs : List ℤ) (up : Bool) where
   entryOf p q (suc i) = after i q
 
   abbrev pub nextAnswerOf : ℕ → Next
-  nextAnswerOf = nextAnswer rows columns hs nextOf
+  nextAnswerOf = nextAnswer pl nextOf
 
   abbrev pub verdictOf : ℕ → ℕ → List ℕ → Verdict
-  verdictOf post run = lineVerdict rows columns hs (toward hs up) (lineOf post run) post run
+  verdictOf post run = lineVerdict pl (toward pl.heights up) (lineOf post run) post run

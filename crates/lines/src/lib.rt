@@ -12,12 +12,13 @@ use table::placed;
 use walk::Walk;
 ghost use mathlib.Core.Path.{_≡_};
 ghost use mathlib.Core.Bool.{true, false};
+ghost use Rattle.surface.specs.Plot.{plot};
 ghost use Rattle.surface.specs.Calls.{nextDownAnswer, nextUpAnswer, thalwegAnswer, thalwegList, ridgeAnswer, ridgeList};
 ghost use Rattle.lines.specs.Directed.{nextAnswerOf};
 
 // Next down, or next up, from a post.
 fn next(rows: u32, columns: u32, heights: &[i32], post: u32, up: bool) -> Next
-    ensures { λ r. ⌜ r ≡ nextAnswerOf rows columns (now (heights .entry)) up post ⌝ }
+    ensures { λ r. ⌜ r ≡ nextAnswerOf (plot rows columns (now (heights .entry))) up post ⌝ }
 {
     let refusal = placed(rows, columns, heights, post);
     if refusal.code != 0 {
@@ -41,14 +42,14 @@ fn next(rows: u32, columns: u32, heights: &[i32], post: u32, up: bool) -> Next
 
 // Next down from a post: its lowest neighbour, the post itself at a pit, 65535 for the virtual pit.
 pub fn next_down(rows: u32, columns: u32, heights: &[i32], post: u32) -> Next
-    ensures { λ r. ⌜ r ≡ nextDownAnswer rows columns (now (heights .entry)) post ⌝ }
+    ensures { λ r. ⌜ r ≡ nextDownAnswer (plot rows columns (now (heights .entry))) post ⌝ }
 {
     next(rows, columns, heights, post, false)
 }
 
 // Next up from a post: its highest neighbour, the post itself at a peak.
 pub fn next_up(rows: u32, columns: u32, heights: &[i32], post: u32) -> Next
-    ensures { λ r. ⌜ r ≡ nextUpAnswer rows columns (now (heights .entry)) post ⌝ }
+    ensures { λ r. ⌜ r ≡ nextUpAnswer (plot rows columns (now (heights .entry))) post ⌝ }
 {
     next(rows, columns, heights, post, true)
 }
@@ -62,8 +63,8 @@ pub fn thalweg(
     run: u32,
     line: &mut [u16],
 ) -> Entries
-    ensures { λ r. ⌜ r ≡ thalwegAnswer rows columns (now (heights .entry)) post run (now (line .entry)) ⌝ }
-    ensures { λ _. ⌜ now (line .exit) ≡ thalwegList rows columns (now (heights .entry)) post run (now (line .entry)) ⌝ }
+    ensures { λ r. ⌜ r ≡ thalwegAnswer (plot rows columns (now (heights .entry))) post run (now (line .entry)) ⌝ }
+    ensures { λ _. ⌜ now (line .exit) ≡ thalwegList (plot rows columns (now (heights .entry))) post run (now (line .entry)) ⌝ }
 {
     draw_line(rows, columns, heights, post, run, false, line)
 }
@@ -77,8 +78,8 @@ pub fn ridge(
     run: u32,
     line: &mut [u16],
 ) -> Entries
-    ensures { λ r. ⌜ r ≡ ridgeAnswer rows columns (now (heights .entry)) post run (now (line .entry)) ⌝ }
-    ensures { λ _. ⌜ now (line .exit) ≡ ridgeList rows columns (now (heights .entry)) post run (now (line .entry)) ⌝ }
+    ensures { λ r. ⌜ r ≡ ridgeAnswer (plot rows columns (now (heights .entry))) post run (now (line .entry)) ⌝ }
+    ensures { λ _. ⌜ now (line .exit) ≡ ridgeList (plot rows columns (now (heights .entry))) post run (now (line .entry)) ⌝ }
 {
     draw_line(rows, columns, heights, post, run, true, line)
 }

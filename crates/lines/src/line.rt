@@ -9,6 +9,7 @@ ghost use mathlib.Core.List.{_++_};
 ghost use Prim.Native.Nat.{_+_, _*_, _≤_, _<_};
 ghost use lib.Dec.{ltb};
 ghost use lib.ListN.{length, drop};
+ghost use Rattle.surface.specs.Plot.{plot};
 ghost use Rattle.surface.specs.Lists.{listOf};
 ghost use Rattle.surface.specs.Calls.{lineAnswer, lineList};
 ghost use Rattle.surface.proofs.Walks.{Vertex};
@@ -17,8 +18,8 @@ ghost use Rattle.lines.specs.Directed.{walkOf, entryOf, lineOf, verdictO
 
 // Whether a list of length `room` takes the line whose walk this is. A list longer than the heights takes every line, so that nothing is counted.
 fn has_room(heights: &[i32], rows: usize, columns: usize, from: Walk, room: usize) -> bool
-    requires { ⌜ Levelled rows columns (now heights) × Vertex (rows * columns) (from .post) × (length (walkOf rows columns (now heights) (from .up) (from .post)) ≤ rows * columns) ⌝ }
-    ensures { λ r. ⌜ r ≡ ltb (length (walkOf rows columns (now (heights .entry)) (from .up) (from .post))) room ⌝ }
+    requires { ⌜ Levelled (plot rows columns (now heights)) × Vertex (rows * columns) (from .post) × (length (walkOf (plot rows columns (now heights)) (from .up) (from .post)) ≤ rows * columns) ⌝ }
+    ensures { λ r. ⌜ r ≡ ltb (length (walkOf (plot rows columns (now (heights .entry))) (from .up) (from .post))) room ⌝ }
 {
     if room <= heights.len() {
         return entries_of(heights, rows, columns, from) < room;
@@ -35,9 +36,9 @@ fn write_entries(
     from: Walk,
     line: &mut [u16],
 ) -> usize
-    requires { ⌜ Levelled rows columns (now heights) × (p < rows * columns) × Vertex (rows * columns) (from .post) × (1 + length (walkOf rows columns (now heights) (from .up) (from .post)) ≤ length (now line)) ⌝ }
-    ensures { λ r. ⌜ r ≡ 1 + length (walkOf rows columns (now (heights .entry)) (from .up) (from .post)) ⌝ }
-    ensures { λ r. ⌜ now (line .exit) ≡ listOf (entryOf rows columns (now (heights .entry)) (from .up) p (from .post)) r ++ drop r (now (line .entry)) ⌝ }
+    requires { ⌜ Levelled (plot rows columns (now heights)) × (p < rows * columns) × Vertex (rows * columns) (from .post) × (1 + length (walkOf (plot rows columns (now heights)) (from .up) (from .post)) ≤ length (now line)) ⌝ }
+    ensures { λ r. ⌜ r ≡ 1 + length (walkOf (plot rows columns (now (heights .entry))) (from .up) (from .post)) ⌝ }
+    ensures { λ r. ⌜ now (line .exit) ≡ listOf (entryOf (plot rows columns (now (heights .entry))) (from .up) p (from .post)) r ++ drop r (now (line .entry)) ⌝ }
 {
     line[0] = p as u16;
     let mut at = from;
@@ -77,8 +78,8 @@ pub(crate) fn draw_line(
     up: bool,
     line: &mut [u16],
 ) -> Entries
-    ensures { λ r. ⌜ r ≡ lineAnswer (verdictOf rows columns (now (heights .entry)) up post run (now (line .entry))) (lineOf rows columns (now (heights .entry)) up post run) ⌝ }
-    ensures { λ _. ⌜ now (line .exit) ≡ lineList (verdictOf rows columns (now (heights .entry)) up post run (now (line .entry))) (lineOf rows columns (now (heights .entry)) up post run) (now (line .entry)) ⌝ }
+    ensures { λ r. ⌜ r ≡ lineAnswer (verdictOf (plot rows columns (now (heights .entry))) up post run (now (line .entry))) (lineOf (plot rows columns (now (heights .entry))) up post run) ⌝ }
+    ensures { λ _. ⌜ now (line .exit) ≡ lineList (verdictOf (plot rows columns (now (heights .entry))) up post run (now (line .entry))) (lineOf (plot rows columns (now (heights .entry))) up post run) (now (line .entry)) ⌝ }
 {
     let refusal = placed(rows, columns, heights, post);
     if refusal.code != 0 {

@@ -3,14 +3,14 @@ use plot::cell::less;
 ghost use mathlib.Core.Path.{_≡_};
 ghost use Prim.Native.Nat.{_≤_};
 ghost use lib.ListN.{length};
-ghost use Rattle.surface.specs.Plot.{below};
+ghost use Rattle.surface.specs.Plot.{belowBy};
 ghost use Rattle.surface.proofs.Walks.{Vertex};
 ghost use Rattle.plot.specs.Scan.{toward, lowerOf};
 
 // p is below q.
 pub(crate) fn is_below(heights: &[i32], p: usize, q: usize) -> bool
     requires { ⌜ Vertex (length (now heights)) p × Vertex (length (now heights)) q × (length (now heights) ≤ 14400) ⌝ }
-    ensures { λ r. ⌜ r ≡ below (now (heights .entry)) p q ⌝ }
+    ensures { λ r. ⌜ r ≡ belowBy (now (heights .entry)) p q ⌝ }
 {
     if q == 65535 {
         return false;

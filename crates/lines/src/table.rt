@@ -7,6 +7,7 @@ use plot::mark::mark_at;
 use plot::ring::ring_at;
 use surface::Answer;
 ghost use Prim.Native.Nat.{_*_, _<_};
+ghost use Rattle.surface.specs.Plot.{plot};
 ghost use Rattle.plot.specs.Fits.{Fits};
 ghost use Rattle.lines.specs.Rows.{Placed, Started};
 
@@ -18,7 +19,7 @@ pub struct Start {
 
 // Rows 1, 2, 4 and 5: the number and place of the first that holds, 0 and 0 where none does.
 pub(crate) fn placed(rows: u32, columns: u32, heights: &[i32], post: u32) -> Answer
-    ensures { λ r. ⌜ Placed rows columns (now (heights .entry)) post r ⌝ }
+    ensures { λ r. ⌜ Placed (plot rows columns (now (heights .entry))) post r ⌝ }
 {
     let size = sized(rows, columns, heights);
     if size != 0 {
@@ -46,8 +47,8 @@ pub(crate) fn start_of(
     p: usize,
     run: u32,
 ) -> Start
-    requires { ⌜ Fits rows columns (now heights) × (p < rows * columns) ⌝ }
-    ensures { λ r. ⌜ Started rows columns (now (heights .entry)) up p run r ⌝ }
+    requires { ⌜ Fits (plot rows columns (now heights)) × (p < rows * columns) ⌝ }
+    ensures { λ r. ⌜ Started (plot rows columns (now (heights .entry))) up p run r ⌝ }
 {
     if mark_at(heights, rows, columns, p) < 3 {
         return Start { code: 7, post: 0 };

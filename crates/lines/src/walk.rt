@@ -3,6 +3,7 @@ use plot::next::next_at;
 ghost use mathlib.Core.Path.{_≡_};
 ghost use Prim.Native.Nat.{_*_};
 ghost use lib.ListN.{length};
+ghost use Rattle.surface.specs.Plot.{plot};
 ghost use Rattle.surface.proofs.Walks.{Vertex};
 ghost use Rattle.plot.specs.Fits.{Levelled};
 ghost use Rattle.lines.specs.Directed.{nextOf, walkOf};
@@ -16,8 +17,8 @@ pub struct Walk {
 impl Walk {
     // The walk a post on; at an end it stays.
     pub fn next(self, heights: &[i32], rows: usize, columns: usize) -> Walk
-        requires { ⌜ Levelled rows columns (now heights) × Vertex (rows * columns) (self .post) ⌝ }
-        ensures { λ r. ⌜ r ≡ record { post = nextOf rows columns (now (heights .entry)) (self .up) (self .post); up = self .up } ⌝ }
+        requires { ⌜ Levelled (plot rows columns (now heights)) × Vertex (rows * columns) (self .post) ⌝ }
+        ensures { λ r. ⌜ r ≡ record { post = nextOf (plot rows columns (now (heights .entry))) (self .up) (self .post); up = self .up } ⌝ }
     {
         let post = self.post;
         let up = self.up;
@@ -33,8 +34,8 @@ impl Walk {
 
 // How many posts a walk goes by until its end, the first and the end among them.
 pub(crate) fn entries_of(heights: &[i32], rows: usize, columns: usize, from: Walk) -> usize
-    requires { ⌜ Levelled rows columns (now heights) × Vertex (rows * columns) (from .post) ⌝ }
-    ensures { λ r. ⌜ r ≡ length (walkOf rows columns (now (heights .entry)) (from .up) (from .post)) ⌝ }
+    requires { ⌜ Levelled (plot rows columns (now heights)) × Vertex (rows * columns) (from .post) ⌝ }
+    ensures { λ r. ⌜ r ≡ length (walkOf (plot rows columns (now (heights .entry))) (from .up) (from .post)) ⌝ }
 {
     let mut at = from;
     let mut entries: usize = 1;

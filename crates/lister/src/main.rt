@@ -6,6 +6,7 @@ use listing::first::put_first;
 use listing::posts::put_posts;
 ghost use Prim.Native.Nat.{_≤_};
 ghost use lib.ListN.{length};
+ghost use Rattle.surface.specs.Plot.{plot, posts};
 ghost use Rattle.listing.specs.First.{Room};
 ghost use Rattle.listing.specs.Lines.{Parted};
 
@@ -18,7 +19,7 @@ fn print_posts(
     hills: &[u16],
     buffer: &mut [u8],
 )
-    requires { ⌜ Parted rows columns (now heights) (now dales) (now hills) × (960 ≤ length (now buffer)) ⌝ }
+    requires { ⌜ Parted (plot rows columns (now heights)) (now dales) (now hills) × (960 ≤ length (now buffer)) ⌝ }
 {
     let posts = rows * columns;
     let mut post = 0;

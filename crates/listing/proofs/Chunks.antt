@@ -8,6 +8,7 @@ use borrow.Author.Tests.{lt-ltb, le-ltb, ltb-true, ltb-false, le-leb}
 use lib.Dec.{ltb, leb}
 use lib.IntN.{ℤ}
 use lib.ListN.{length}
+use Rattle.surface.specs.Plot.{Plot, posts}
 use Rattle.surface.specs.Lists.{listOf}
 use Rattle.surface.specs.Marks.{ringOf, markAt}
 use Rattle.surface.specs.Lines.{thalweg, ridge, daleAt, hillAt, dalesOf, hillsOf}
@@ -26,44 +27,44 @@ first-false : (a b : Bool) → a && b ≡ false → b ≡ true → a ≡ false
 first-false true b h e = absurd (true≢false (sym e ∙ h))
 first-false false b h e = refl
 
-module _ {rows columns : ℕ} {hs : List ℤ} {dales hills : List ℕ} (k : Parted rows columns hs dales hills) (p : ℕ) (post : p < rows * columns) where
-  module _ {ring : Ring} (h : markAt rows columns hs p < 3 → ⊥) (r : Held ring (ringOf rows columns hs p)) where
-    pub downward : Saddle rows columns hs false p ring dales
+module _ {pl : Plot} {dales hills : List ℕ} (k : Parted pl dales hills) (p : ℕ) (post : p < posts pl) where
+  module _ {ring : Ring} (h : markAt pl p < 3 → ⊥) (r : Held ring (ringOf pl p)) where
+    pub downward : Saddle pl false p ring dales
     unfolding dalesOf daleAt
     downward = record { fits = k .fits; post = post; saddle = h; held = r; known = k .dalesKnown }
 
-    pub upward : Saddle rows columns hs true p ring hills
+    pub upward : Saddle pl true p ring hills
     unfolding hillsOf hillAt
     upward = record { fits = k .fits; post = post; saddle = h; held = r; known = k .hillsKnown }
 
-module _ (rows columns : ℕ) (hs : List ℤ) (p : ℕ) where
-  pub no-saddle : (l : List ℕ) (at : ℕ) → markAt rows columns hs p < 3 → Wrote 960 l l at (postLines rows columns hs p) at
+module _ (pl : Plot) (p : ℕ) where
+  pub no-saddle : (l : List ℕ) (at : ℕ) → markAt pl p < 3 → Wrote 960 l l at (postLines pl p) at
   unfolding postLines
   no-saddle l at h = rw (lt-ltb _ 3 h) (nothing l at)
 
   -- water lines, then crest lines
-  pub both : {l l₁ l₂ : List ℕ} {at next last : ℕ} → (markAt rows columns hs p < 3 → ⊥)
-      → Wrote 480 l l₁ at (runLines rows columns hs false 84 p (length (runsOf rows columns hs false p))) next
-      → Wrote 480 l₁ l₂ next (runLines rows columns hs true 82 p (length (runsOf rows columns hs true p))) last
-      → Wrote 960 l l₂ at (postLines rows columns hs p) last
+  pub both : {l l₁ l₂ : List ℕ} {at next last : ℕ} → (markAt pl p < 3 → ⊥)
+      → Wrote 480 l l₁ at (runLines pl false 84 p (length (runsOf pl false p))) next
+      → Wrote 480 l₁ l₂ next (runLines pl true 82 p (length (runsOf pl true p))) last
+      → Wrote 960 l l₂ at (postLines pl p) last
   unfolding postLines saddleLines runLines thalweg ridge
-  both h w v = let m : 3 ≤ markAt rows columns hs p = omega arith in rw (le-ltb _ 3 m) (more w v)
+  both h w v = let m : 3 ≤ markAt pl p = omega arith in rw (le-ltb _ 3 m) (more w v)
 
   -- posts one after the other
-  from-none : linesFrom rows columns hs p p ≡ []
+  from-none : linesFrom pl p p ≡ []
   unfolding linesFrom listOf concat
   from-none = let e : p - p ≡ 0 = omega arith in rw e
 
-  from-more : (next : ℕ) → p ≤ next → linesFrom rows columns hs p (next + 1) ≡ linesFrom rows columns hs p next ++ postLines rows columns hs next
+  from-more : (next : ℕ) → p ≤ next → linesFrom pl p (next + 1) ≡ linesFrom pl p next ++ postLines pl next
   unfolding linesFrom
   from-more next h =
       let e : next + 1 - p ≡ (next - p) + 1 = omega arith in
       let f : p + (next - p) ≡ next = omega arith in
-      rw (e, concat-more (λ i. postLines rows columns hs (p + i)) (next - p), f)
+      rw (e, concat-more (λ i. postLines pl (p + i)) (next - p), f)
 
   -- the lines up to post `next` are written, in a list with room after place `last`
   pub record Going (l l₁ : List ℕ) (last next bytes : ℕ) : Type 0 where
-    pub wrote : Wrote (last + 960) l l₁ 0 (linesFrom rows columns hs p next) bytes
+    pub wrote : Wrote (last + 960) l l₁ 0 (linesFrom pl p next) bytes
     pub size : length l₁ ≡ length l
     pub low : p ≤ next
     pub first : next ≡ p → bytes ≡ 0
@@ -72,7 +73,7 @@ module _ (rows columns : ℕ) (hs : List ℤ) (p : ℕ) where
   going-none l last = record { wrote = rw from-none (nothing l 0); size = refl; low = omega arith; first = λ _. refl }
 
   pub going-more : {l l₁ l₂ : List ℕ} {last next bytes more′ : ℕ} → Going l l₁ last next bytes → bytes ≤ last
-      → Wrote 960 l₁ l₂ bytes (postLines rows columns hs next) more′
+      → Wrote 960 l₁ l₂ bytes (postLines pl next) more′
       → length l₂ ≡ length l₁
       → Going l l₂ last (next + 1) more′
   going-more {next = next} g h w e =
@@ -84,33 +85,33 @@ module _ (rows columns : ℕ) (hs : List ℤ) (p : ℕ) where
         first = λ f. absurd (omega (arith, g .low));
       }
 
-  pub going-end : {l l₁ : List ℕ} {last next bytes : ℕ} → Going l l₁ last next bytes → last + 960 ≡ length l → next ≤ rows * columns
-      → (ltb next (rows * columns) && leb bytes last) ≡ false
-      → Listed rows columns hs p l l₁ (record { post = next; bytes = bytes })
+  pub going-end : {l l₁ : List ℕ} {last next bytes : ℕ} → Going l l₁ last next bytes → last + 960 ≡ length l → next ≤ posts pl
+      → (ltb next (posts pl) && leb bytes last) ≡ false
+      → Listed pl p l l₁ (record { post = next; bytes = bytes })
   going-end {l} {l₁} {last} {next} {bytes} g e h stop =
-      let f = front l l₁ (linesFrom rows columns hs p next) bytes (omega arith) (g .wrote) in
+      let f = front l l₁ (linesFrom pl p next) bytes (omega arith) (g .wrote) in
       record { text = f .0; kept = f .1; room = f .2; low = g .low; further = further; high = h }
     where
-      further : p < rows * columns → p < next
+      further : p < posts pl → p < next
       further k =
           either (ltb p next) (λ a. ltb-true p next a)
           (λ a.
           let here : next ≡ p = omega (arith, ltb-false p next a, g .low) in
           let none : bytes ≤ last = omega (arith, g .first here) in
-          absurd (omega (arith, ltb-false next (rows * columns) (first-false _ _ stop (le-leb bytes last none)))))
+          absurd (omega (arith, ltb-false next (posts pl) (first-false _ _ stop (le-leb bytes last none)))))
 
 -- pieces of the text, one after the other
-pub from-zero : (rows columns : ℕ) (hs : List ℤ) (n : ℕ) → linesFrom rows columns hs 0 n ≡ concat (listOf (postLines rows columns hs) n)
+pub from-zero : (pl : Plot) (n : ℕ) → linesFrom pl 0 n ≡ concat (listOf (postLines pl) n)
 unfolding linesFrom
-from-zero rows columns hs n =
+from-zero pl n =
     let e : n - 0 ≡ n = omega arith in
-    rw e (ap concat (listOf-ext (λ i. postLines rows columns hs (0 + i)) (postLines rows columns hs) n (λ i _. let f : 0 + i ≡ i = omega arith in rw f)))
+    rw e (ap concat (listOf-ext (λ i. postLines pl (0 + i)) (postLines pl) n (λ i _. let f : 0 + i ≡ i = omega arith in rw f)))
 
 -- all posts' lines are those up to a post and those from it on
-pub from-both : (rows columns : ℕ) (hs : List ℤ) (p q n : ℕ) → p ≤ q → linesFrom rows columns hs p q ++ linesFrom rows columns hs q (q + n) ≡ linesFrom rows columns hs p (q + n)
-from-both rows columns hs p q zero h = let e : q + 0 ≡ q = omega arith in rw (e, from-none rows columns hs q) (append-nil (linesFrom rows columns hs p q))
-from-both rows columns hs p q (suc n) h =
+pub from-both : (pl : Plot) (p q n : ℕ) → p ≤ q → linesFrom pl p q ++ linesFrom pl q (q + n) ≡ linesFrom pl p (q + n)
+from-both pl p q zero h = let e : q + 0 ≡ q = omega arith in rw (e, from-none pl q) (append-nil (linesFrom pl p q))
+from-both pl p q (suc n) h =
     let e : q + suc n ≡ q + n + 1 = omega arith in
-    rw (e, from-more rows columns hs q (q + n) (omega arith), from-more rows columns hs p (q + n) (omega arith))
-    (sym (append-assoc (linesFrom rows columns hs p q) (linesFrom rows columns hs q (q + n)) (postLines rows columns hs (q + n)))
-    ∙ ap (λ (l : List ℕ). l ++ postLines rows columns hs (q + n)) (from-both rows columns hs p q n h))
+    rw (e, from-more pl q (q + n) (omega arith), from-more pl p (q + n) (omega arith))
+    (sym (append-assoc (linesFrom pl p q) (linesFrom pl q (q + n)) (postLines pl (q + n)))
+    ∙ ap (λ (l : List ℕ). l ++ postLines pl (q + n)) (from-both pl p q n h))

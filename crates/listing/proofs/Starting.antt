@@ -8,7 +8,7 @@ use borrow.Author.Tests.{ne-eqb, le-ltb}
 use lib.IntN.{ℤ, pos}
 use lib.ListN.{length, getD, replicate, length-replicate, List·getD-eq-default}
 use Rattle.surface.specs.Lists.{firstNot}
-use Rattle.surface.specs.Plot.{isSide, isHeight}
+use Rattle.surface.specs.Plot.{plot, isSide, isHeight}
 use Rattle.surface.specs.Marks.{peaks, pits, saddles}
 use Rattle.surface.specs.Refusals.{verdict, readVerdict}
 use Rattle.surface.specs.Calls.{readAnswer, readHeights, surveyAnswer, partsDales, partsHills}
@@ -62,7 +62,7 @@ module _ (file : List ℕ) (hs : List ℤ) (h : length hs ≡ plotPosts file) wh
     abbrev found : List ℤ
     found = readHeights file hs
 
-    whole : plotText rows columns found ≡ listing file
+    whole : plotText (plot rows columns found) ≡ listing file
     unfolding listing
     whole =
         let f = read-fresh file hs (lent file) alike in
@@ -77,8 +77,8 @@ module _ (file : List ℕ) (hs : List ℤ) (h : length hs ≡ plotPosts file) wh
     sides : (isSide rows && isSide columns) ≡ true
     sides = rw (rows-are, columns-are) (read-accepted file hs accepted .sides)
 
-    plot : Plotted rows columns found
-    plot =
+    fitting : Plotted (plot rows columns found)
+    fitting =
         let r = read-heights file hs e in
         record {
           rowsFit = and-left (isSide rows) (isSide columns) sides;
@@ -92,29 +92,29 @@ module _ (file : List ℕ) (hs : List ℤ) (h : length hs ≡ plotPosts file) wh
 
     -- the counts are those of the marks
     pub head : (marks : List ℕ) → length marks ≡ length hs
-        → let a = surveyAnswer rows columns found marks in
-        textLine 78 (decimal rows ∷ decimal columns ∷ decimal (a .peaks) ∷ decimal (a .pits) ∷ decimal (a .saddles) ∷ []) ≡ headLine rows columns found
+        → let a = surveyAnswer (plot rows columns found) marks in
+        textLine 78 (decimal rows ∷ decimal columns ∷ decimal (a .peaks) ∷ decimal (a .pits) ∷ decimal (a .saddles) ∷ []) ≡ headLine (plot rows columns found)
     unfolding headLine
     head marks k =
-        let v = ap (λ r. r .code) (plotted-survey rows columns found plot marks (k ∙ size)) in
-        rw (survey-served rows columns found marks v, survey-filled rows columns found marks v)
+        let v = ap (λ r. r .code) (plotted-survey (plot rows columns found) fitting marks (k ∙ size)) in
+        rw (survey-served (plot rows columns found) marks v, survey-filled (plot rows columns found) marks v)
 
     pub parted : (dales hills : List ℕ) → length dales ≡ length hs → length hills ≡ length hs
-        → Parted rows columns found (partsDales rows columns found dales hills) (partsHills rows columns found dales hills)
+        → Parted (plot rows columns found) (partsDales (plot rows columns found) dales hills) (partsHills (plot rows columns found) dales hills)
     parted dales hills k m =
-        let v = ap (λ r. r .code) (plotted-parts rows columns found plot dales hills (k ∙ size) (m ∙ size)) in
-        let f = parts-filled rows columns found dales hills v in
-        record { fits = plotted-fits rows columns found plot; dalesKnown = sym (f .0); hillsKnown = sym (f .1) }
+        let v = ap (λ r. r .code) (plotted-parts (plot rows columns found) fitting dales hills (k ∙ size) (m ∙ size)) in
+        let f = parts-filled (plot rows columns found) dales hills v in
+        record { fits = plotted-fits (plot rows columns found) fitting; dalesKnown = sym (f .0); hillsKnown = sym (f .1) }
 
-    pub left : headLine rows columns found ++ linesFrom rows columns found 0 (rows * columns) ≡ listing file
+    pub left : headLine (plot rows columns found) ++ linesFrom (plot rows columns found) 0 (rows * columns) ≡ listing file
     unfolding plotText
-    left = rw (from-zero rows columns found (rows * columns)) whole
+    left = rw (from-zero (plot rows columns found) (rows * columns)) whole
 
     pub small : (rows ≤ 120) × (columns ≤ 120)
-    small = let f = plotted-fits rows columns found plot in (f .rowsHigh, f .columnsHigh)
+    small = let f = plotted-fits (plot rows columns found) fitting in (f .rowsHigh, f .columnsHigh)
 
     pub some : rows ≡ 0 → ⊥
-    some z = omega (arith, plotted-fits rows columns found plot .rowsLow)
+    some z = omega (arith, plotted-fits (plot rows columns found) fitting .rowsLow)
 
 -- how many posts the file's plot has
 pub plot-posts : (file : List ℕ) (rows columns : ℕ) → rows ≡ getD file 5 0 → columns ≡ getD file 6 0 → (isSide rows && isSide columns) ≡ true
@@ -151,9 +151,9 @@ module _ (file : List ℕ) (hs : List ℤ) (h : length hs ≡ plotPosts file) (a
   pub begins-accepted : (after : List ℤ) (marks dales hills dales′ hills′ l l₁ : List ℕ) (counts : Counts) (bytes : ℕ)
       → a .code ≡ 0
       → after ≡ readHeights file hs
-      → counts ≡ surveyAnswer (a .rows) (a .columns) after marks
-      → dales′ ≡ partsDales (a .rows) (a .columns) after dales hills
-      → hills′ ≡ partsHills (a .rows) (a .columns) after dales hills
+      → counts ≡ surveyAnswer (plot (a .rows) (a .columns) after) marks
+      → dales′ ≡ partsDales (plot (a .rows) (a .columns) after) dales hills
+      → hills′ ≡ partsHills (plot (a .rows) (a .columns) after) dales hills
       → Room file hs marks dales hills
       → 60 ≤ length l
       → Wrote 60 l l₁ 0 (textLine 78 (decimal (a .rows) ∷ decimal (a .columns) ∷ decimal (counts .peaks) ∷ decimal (counts .pits) ∷ decimal (counts .saddles) ∷ [])) bytes

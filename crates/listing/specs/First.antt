@@ -5,7 +5,7 @@ use mathlib.Core.Bool.{cond, _&&_}
 use mathlib.Core.List.{List, _++_}
 use lib.IntN.{ℤ}
 use lib.ListN.{length, getD, take}
-use Rattle.surface.specs.Plot.{isSide}
+use Rattle.surface.specs.Plot.{plot, isSide}
 use Rattle.surface.specs.Lister.{listing}
 use Rattle.listing.specs.Lines.{linesFrom, Parted}
 use Rattle.listing.specs.declared.first.Begun.{Begun}
@@ -25,5 +25,5 @@ pub record Room (file : List ℕ) (heights : List ℤ) (marks dales hills : List
 pub record Begins (file : List ℕ) (hs : List ℤ) (dales hills buffer : List ℕ) (r : Begun) : Type 0 where
   pub room : r .bytes ≤ length buffer
   pub refused : r .rows ≡ 0 → take (r .bytes) buffer ≡ listing file
-  pub text : (r .rows ≡ 0 → ⊥) → take (r .bytes) buffer ++ linesFrom (r .rows) (r .columns) hs 0 (r .rows * r .columns) ≡ listing file
-  pub parted : (r .rows ≡ 0 → ⊥) → Parted (r .rows) (r .columns) hs dales hills
+  pub text : (r .rows ≡ 0 → ⊥) → take (r .bytes) buffer ++ linesFrom (plot (r .rows) (r .columns) hs) 0 (r .rows * r .columns) ≡ listing file
+  pub parted : (r .rows ≡ 0 → ⊥) → Parted (plot (r .rows) (r .columns) hs) dales hills

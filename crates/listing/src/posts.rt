@@ -9,6 +9,7 @@ ghost use mathlib.Core.Path.{_≡_};
 ghost use mathlib.Core.Bool.{true, false};
 ghost use Prim.Native.Nat.{_+_, _*_, _≤_, _<_};
 ghost use lib.ListN.{length};
+ghost use Rattle.surface.specs.Plot.{plot};
 ghost use Rattle.surface.specs.Lister.{postLines};
 ghost use Rattle.surface.proofs.Walks.{Vertex};
 ghost use Rattle.lines.specs.Directed.{runsOf};
@@ -45,8 +46,8 @@ fn put_runs(
     out: &mut [u8],
     at: usize,
 ) -> usize
-    requires { ⌜ Saddle rows columns (now heights) up p ring (now ends) × (at + 480 ≤ length (now out)) ⌝ }
-    ensures { λ r. ⌜ Wrote 480 (now (out .entry)) (now (out .exit)) at (runLines rows columns (now (heights .entry)) up letter p (length (runsOf rows columns (now (heights .entry)) up p))) r ⌝ }
+    requires { ⌜ Saddle (plot rows columns (now heights)) up p ring (now ends) × (at + 480 ≤ length (now out)) ⌝ }
+    ensures { λ r. ⌜ Wrote 480 (now (out .entry)) (now (out .exit)) at (runLines (plot rows columns (now (heights .entry))) up letter p (length (runsOf (plot rows columns (now (heights .entry))) up p))) r ⌝ }
 {
     let len = ring.len;
     let mut next = at;
@@ -75,8 +76,8 @@ pub fn put_post(
     out: &mut [u8],
     at: usize,
 ) -> usize
-    requires { ⌜ Parted rows columns (now heights) (now dales) (now hills) × (p < rows * columns) × (at + 960 ≤ length (now out)) ⌝ }
-    ensures { λ r. ⌜ Wrote 960 (now (out .entry)) (now (out .exit)) at (postLines rows columns (now (heights .entry)) p) r ⌝ }
+    requires { ⌜ Parted (plot rows columns (now heights)) (now dales) (now hills) × (p < rows * columns) × (at + 960 ≤ length (now out)) ⌝ }
+    ensures { λ r. ⌜ Wrote 960 (now (out .entry)) (now (out .exit)) at (postLines (plot rows columns (now (heights .entry))) p) r ⌝ }
 {
     if mark_at(heights, rows, columns, p) < 3 {
         return at;
@@ -96,8 +97,8 @@ pub fn put_posts(
     from: usize,
     out: &mut [u8],
 ) -> Filled
-    requires { ⌜ Parted rows columns (now heights) (now dales) (now hills) × (from ≤ rows * columns) × (960 ≤ length (now out)) ⌝ }
-    ensures { λ r. ⌜ Listed rows columns (now (heights .entry)) from (now (out .entry)) (now (out .exit)) r ⌝ }
+    requires { ⌜ Parted (plot rows columns (now heights)) (now dales) (now hills) × (from ≤ rows * columns) × (960 ≤ length (now out)) ⌝ }
+    ensures { λ r. ⌜ Listed (plot rows columns (now (heights .entry))) from (now (out .entry)) (now (out .exit)) r ⌝ }
 {
     let posts = rows * columns;
     let last = out.len() - 960;

@@ -10,7 +10,7 @@ use lib.IntN.{ℤ}
 use lib.ListN.{length}
 use borrow.Author.Tests.{ltb-true, ltb-false}
 use Rattle.surface.specs.Lists.{listOf}
-use Rattle.surface.specs.Plot.{virtualPit}
+use Rattle.surface.specs.Plot.{Plot, posts, virtualPit}
 use Rattle.surface.specs.Marks.{ringOf}
 use Rattle.surface.specs.Lines.{isEnd, next, end, lowestOf, daleAt, hillAt, dalesOf, hillsOf}
 use Rattle.surface.proofs.Bools.{either}
@@ -56,24 +56,24 @@ module _ {n : ℕ} {lower : ℕ → ℕ → Bool} {ring : ℕ → List ℕ} {pic
     pub ends-are : listOf (endIn nexts) (length nexts) ≡ listOf (end lower ring pick n) n
     ends-are = rw (length-listOf (next lower ring pick) n) (listOf-ext (after nexts n) (end lower ring pick n) n (λ p h. after-end n p (inl h)))
 
-module _ {rows columns : ℕ} {hs : List ℤ} (fits : Fits rows columns hs) where
-  names-are : (up : Bool) → listOf (end (toward hs up) (ringOf rows columns hs) (lowestOf (toward hs up)) (rows * columns)) (rows * columns)
-      ≡ cond up (hillsOf rows columns hs) (dalesOf rows columns hs)
+module _ {pl : Plot} (fits : Fits pl) where
+  names-are : (up : Bool) → listOf (end (toward pl.heights up) (ringOf pl) (lowestOf (toward pl.heights up)) (posts pl)) (posts pl)
+      ≡ cond up (hillsOf pl) (dalesOf pl)
   unfolding dalesOf daleAt hillsOf hillAt
   names-are true = refl
   names-are false = refl
 
   -- next posts fit 16 bits
-  pub next-fits : (up : Bool) (p : ℕ) → p < rows * columns → nextBy up rows columns hs p < 65536
-  next-fits up p h = rw (next-by rows columns hs up p) (vertex-low fits _ (next-vertex (descent fits up) p (inl h)))
+  pub next-fits : (up : Bool) (p : ℕ) → p < posts pl → nextBy up pl p < 65536
+  next-fits up p h = rw (next-by pl up p) (vertex-low fits _ (next-vertex (descent fits up) p (inl h)))
 
   -- a list filled with them: its paths come to an end, and the ends are the names of the dales, or of the hills
-  module _ (up : Bool) {l : List ℕ} (filled : l ≡ listOf (nextBy up rows columns hs) (rows * columns)) where
+  module _ (up : Bool) {l : List ℕ} (filled : l ≡ listOf (nextBy up pl) (posts pl)) where
     made : l ≡ nexts (descent fits up)
-    made = filled ∙ listOf-ext (nextBy up rows columns hs) _ (rows * columns) (λ p _. next-by rows columns hs up p)
+    made = filled ∙ listOf-ext (nextBy up pl) _ (posts pl) (λ p _. next-by pl up p)
 
     pub filled-ends : Ends l
     filled-ends = rw made (nexts-end (descent fits up) (fit fits))
 
-    pub filled-parts : listOf (endIn l) (length l) ≡ cond up (hillsOf rows columns hs) (dalesOf rows columns hs)
+    pub filled-parts : listOf (endIn l) (length l) ≡ cond up (hillsOf pl) (dalesOf pl)
     filled-parts = rw made (ends-are (descent fits up) (fit fits) ∙ names-are up)

@@ -4,17 +4,18 @@ use mathlib.Core.Path.{_≡_}
 use mathlib.Core.List.{List}
 use lib.IntN.{ℤ}
 use lib.ListN.{length}
+use Rattle.surface.specs.Plot.{Plot, posts}
 use Rattle.surface.specs.Refusals.{partsVerdict}
 use Rattle.surface.specs.Calls.{answer}
 use Rattle.surface.specs.declared.Answer.{Answer}
 use Rattle.plot.specs.Fits.{Levelled}
 
 -- a plot, and two lists of its size
-pub record Lent (rows columns : ℕ) (hs : List ℤ) (dales hills : List ℕ) : Type 0 where
-  pub levelled : Levelled rows columns hs
-  pub dalesSize : length dales ≡ rows * columns
-  pub hillsSize : length hills ≡ rows * columns
+pub record Lent (pl : Plot) (dales hills : List ℕ) : Type 0 where
+  pub levelled : Levelled pl
+  pub dalesSize : length dales ≡ posts pl
+  pub hillsSize : length hills ≡ posts pl
 
-pub record Accepts (rows columns : ℕ) (hs : List ℤ) (dales hills : List ℕ) (r : Answer) : Type 0 where
-  pub verdict : r ≡ answer (partsVerdict rows columns hs dales hills)
-  pub lent : r .code ≡ 0 → Lent rows columns hs dales hills
+pub record Accepts (pl : Plot) (dales hills : List ℕ) (r : Answer) : Type 0 where
+  pub verdict : r ≡ answer (partsVerdict pl dales hills)
+  pub lent : r .code ≡ 0 → Lent pl dales hills

@@ -5,6 +5,7 @@ ghost use mathlib.Core.Path.{_≡_};
 ghost use mathlib.Core.Bool.{true, false};
 ghost use Prim.Native.Nat.{_+_, _-_, _*_, _≤_, _<_};
 ghost use lib.ListN.{length};
+ghost use Rattle.surface.specs.Plot.{plot};
 ghost use Rattle.surface.specs.Lists.{listOf};
 ghost use Rattle.plot.specs.Fits.{Levelled};
 ghost use Rattle.plot.specs.Stores.{stores};
@@ -21,8 +22,8 @@ fn next_each(
     up: bool,
     list: &mut [u16],
 )
-    requires { ⌜ Levelled rows columns (now heights) × (length (now list) ≡ rows * columns) × (from + n ≤ rows * columns) ⌝ }
-    ensures { λ _. ⌜ now (list .exit) ≡ stores (nextBy up rows columns (now (heights .entry))) from n (now (list .entry)) ⌝ }
+    requires { ⌜ Levelled (plot rows columns (now heights)) × (length (now list) ≡ rows * columns) × (from + n ≤ rows * columns) ⌝ }
+    ensures { λ _. ⌜ now (list .exit) ≡ stores (nextBy up (plot rows columns (now (heights .entry)))) from n (now (list .entry)) ⌝ }
 {
     let mut i = 0;
     while i < n {
@@ -40,9 +41,9 @@ fn next_inner(
     down: &mut [u16],
     up: &mut [u16],
 )
-    requires { ⌜ Levelled rows columns (now heights) × Between rows columns base × (length (now down) ≡ rows * columns) × (length (now up) ≡ rows * columns) ⌝ }
-    ensures { λ _. ⌜ now (down .exit) ≡ stores (nextBy false rows columns (now (heights .entry))) (base + 1) (columns - 2) (now (down .entry)) ⌝ }
-    ensures { λ _. ⌜ now (up .exit) ≡ stores (nextBy true rows columns (now (heights .entry))) (base + 1) (columns - 2) (now (up .entry)) ⌝ }
+    requires { ⌜ Levelled (plot rows columns (now heights)) × Between rows columns base × (length (now down) ≡ rows * columns) × (length (now up) ≡ rows * columns) ⌝ }
+    ensures { λ _. ⌜ now (down .exit) ≡ stores (nextBy false (plot rows columns (now (heights .entry)))) (base + 1) (columns - 2) (now (down .entry)) ⌝ }
+    ensures { λ _. ⌜ now (up .exit) ≡ stores (nextBy true (plot rows columns (now (heights .entry)))) (base + 1) (columns - 2) (now (up .entry)) ⌝ }
 {
     let mut c = 1;
     while c + 1 < columns {
@@ -62,9 +63,9 @@ fn next_row(
     down: &mut [u16],
     up: &mut [u16],
 )
-    requires { ⌜ Levelled rows columns (now heights) × Between rows columns base × (length (now down) ≡ rows * columns) × (length (now up) ≡ rows * columns) ⌝ }
-    ensures { λ _. ⌜ now (down .exit) ≡ stores (nextBy false rows columns (now (heights .entry))) base columns (now (down .entry)) ⌝ }
-    ensures { λ _. ⌜ now (up .exit) ≡ stores (nextBy true rows columns (now (heights .entry))) base columns (now (up .entry)) ⌝ }
+    requires { ⌜ Levelled (plot rows columns (now heights)) × Between rows columns base × (length (now down) ≡ rows * columns) × (length (now up) ≡ rows * columns) ⌝ }
+    ensures { λ _. ⌜ now (down .exit) ≡ stores (nextBy false (plot rows columns (now (heights .entry)))) base columns (now (down .entry)) ⌝ }
+    ensures { λ _. ⌜ now (up .exit) ≡ stores (nextBy true (plot rows columns (now (heights .entry)))) base columns (now (up .entry)) ⌝ }
 {
     let end = base + (columns - 1);
     next_each(heights, rows, columns, base, 1, false, down);
@@ -76,9 +77,9 @@ fn next_row(
 
 // Of every row between the top and the bottom one, downward and upward.
 fn next_rows(heights: &[i32], rows: usize, columns: usize, down: &mut [u16], up: &mut [u16])
-    requires { ⌜ Levelled rows columns (now heights) × (length (now down) ≡ rows * columns) × (length (now up) ≡ rows * columns) ⌝ }
-    ensures { λ _. ⌜ now (down .exit) ≡ stores (nextBy false rows columns (now (heights .entry))) columns (rows * columns - columns - columns) (now (down .entry)) ⌝ }
-    ensures { λ _. ⌜ now (up .exit) ≡ stores (nextBy true rows columns (now (heights .entry))) columns (rows * columns - columns - columns) (now (up .entry)) ⌝ }
+    requires { ⌜ Levelled (plot rows columns (now heights)) × (length (now down) ≡ rows * columns) × (length (now up) ≡ rows * columns) ⌝ }
+    ensures { λ _. ⌜ now (down .exit) ≡ stores (nextBy false (plot rows columns (now (heights .entry)))) columns (rows * columns - columns - columns) (now (down .entry)) ⌝ }
+    ensures { λ _. ⌜ now (up .exit) ≡ stores (nextBy true (plot rows columns (now (heights .entry)))) columns (rows * columns - columns - columns) (now (up .entry)) ⌝ }
 {
     let mut r = 1;
     while r + 1 < rows {
@@ -95,9 +96,9 @@ pub(crate) fn fill_nexts(
     down: &mut [u16],
     up: &mut [u16],
 )
-    requires { ⌜ Levelled rows columns (now heights) × (length (now down) ≡ rows * columns) × (length (now up) ≡ rows * columns) ⌝ }
-    ensures { λ _. ⌜ now (down .exit) ≡ listOf (nextBy false rows columns (now (heights .entry))) (rows * columns) ⌝ }
-    ensures { λ _. ⌜ now (up .exit) ≡ listOf (nextBy true rows columns (now (heights .entry))) (rows * columns) ⌝ }
+    requires { ⌜ Levelled (plot rows columns (now heights)) × (length (now down) ≡ rows * columns) × (length (now up) ≡ rows * columns) ⌝ }
+    ensures { λ _. ⌜ now (down .exit) ≡ listOf (nextBy false (plot rows columns (now (heights .entry)))) (rows * columns) ⌝ }
+    ensures { λ _. ⌜ now (up .exit) ≡ listOf (nextBy true (plot rows columns (now (heights .entry)))) (rows * columns) ⌝ }
 {
     let bottom = rows * columns - columns;
     next_each(heights, rows, columns, 0, columns, false, down);

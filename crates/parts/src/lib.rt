@@ -8,12 +8,13 @@ use plot::limits::ranged;
 use plot::limits::sized;
 use surface::Answer;
 ghost use mathlib.Core.Path.{_≡_};
+ghost use Rattle.surface.specs.Plot.{plot, posts};
 ghost use Rattle.surface.specs.Calls.{partsAnswer, partsDales, partsHills};
 ghost use Rattle.parts.specs.Accepts.{Accepts};
 
 // What the call returns: rows 1, 2, 3 and 4 of the table, in that order.
 fn verdict(rows: u32, columns: u32, heights: &[i32], dales: &[u16], hills: &[u16]) -> Answer
-    ensures { λ r. ⌜ Accepts rows columns (now (heights .entry)) (now (dales .entry)) (now (hills .entry)) r ⌝ }
+    ensures { λ r. ⌜ Accepts (plot rows columns (now (heights .entry))) (now (dales .entry)) (now (hills .entry)) r ⌝ }
 {
     let code = sized(rows, columns, heights);
     if code != 0 {
@@ -34,9 +35,9 @@ pub fn dales_and_hills(
     dales: &mut [u16],
     hills: &mut [u16],
 ) -> Answer
-    ensures { λ r. ⌜ r ≡ partsAnswer rows columns (now (heights .entry)) (now (dales .entry)) (now (hills .entry)) ⌝ }
-    ensures { λ _. ⌜ now (dales .exit) ≡ partsDales rows columns (now (heights .entry)) (now (dales .entry)) (now (hills .entry)) ⌝ }
-    ensures { λ _. ⌜ now (hills .exit) ≡ partsHills rows columns (now (heights .entry)) (now (dales .entry)) (now (hills .entry)) ⌝ }
+    ensures { λ r. ⌜ r ≡ partsAnswer (plot rows columns (now (heights .entry))) (now (dales .entry)) (now (hills .entry)) ⌝ }
+    ensures { λ _. ⌜ now (dales .exit) ≡ partsDales (plot rows columns (now (heights .entry))) (now (dales .entry)) (now (hills .entry)) ⌝ }
+    ensures { λ _. ⌜ now (hills .exit) ≡ partsHills (plot rows columns (now (heights .entry))) (now (dales .entry)) (now (hills .entry)) ⌝ }
 {
     let answer = verdict(rows, columns, heights, dales, hills);
     let code = answer.code;

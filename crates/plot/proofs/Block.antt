@@ -10,8 +10,9 @@ use native.Mathlib.Omega.{arith}
 use lib.IntN.{ℤ}
 use lib.ListN.{length}
 use borrow.Author.Tests.{eq-eqb, ne-eqb}
-use Rattle.surface.specs.Plot.{below, reversed}
-use Rattle.surface.specs.Edges.{lowest, Place, place, isBorder, throughLowest}
+use Rattle.surface.specs.Marks.{fallsIn}
+use Rattle.surface.specs.Plot.{Plot, posts, below, reversed}
+use Rattle.surface.specs.Edges.{throughLowest, lowest, Place, place, isBorder}
 use Rattle.surface.proofs.Bools.{either}
 use Rattle.surface.proofs.Order.{StrictTotal, below-strict, reversed-strict}
 use Rattle.surface.proofs.Lowest.{lowest-member, lowest-least}
@@ -332,28 +333,28 @@ module _ (lower : ℕ → ℕ → Bool) (o : StrictTotal lower) where
           (λ h. flagged (at .first) (at .top) _ _ (λ i j. nw-above (northWest i j) h)))
 
 -- a post on no border
-module _ {rows columns : ℕ} {hs : List ℤ} (fits : Fits rows columns hs) (p : ℕ) (post : p < rows * columns) (border : isBorder rows columns p ≡ false) where
+module _ {pl : Plot} (fits : Fits pl) (p : ℕ) (post : p < posts pl) (border : isBorder pl.rows pl.columns p ≡ false) where
   abbrev falling-round : ℕ → Bool
-  falling-round = throughLowest (below hs) columns
+  falling-round = fallsIn pl
 
-  stands : Inside rows columns hs p (falling-round (p - columns - 1)) (falling-round (p - columns)) (falling-round (p - 1)) (falling-round p)
+  stands : Inside pl p (falling-round (p - pl.columns - 1)) (falling-round (p - pl.columns)) (falling-round (p - 1)) (falling-round p)
   stands = record { fits = fits; post = post; border = border; nwFalls = refl; neFalls = refl; swFalls = refl; seFalls = refl }
 
-  pub down-block : nextBy false rows columns hs p ≡ scan (toward hs false) p (turn columns p inside everyCorner)
-  down-block = next-is stands false ∙ every-corner (below hs) (below-strict hs) columns p (fits .columnsLow) (inside-bounds stands .0)
+  pub down-block : nextBy false pl p ≡ scan (toward pl.heights false) p (turn pl.columns p inside everyCorner)
+  down-block = next-is stands false ∙ every-corner (below pl) (below-strict pl.heights) pl.columns p (fits .columnsLow) (inside-bounds stands .0)
 
-  pub inside-at : bordersOf rows columns p ≡ inside
+  pub inside-at : bordersOf pl.rows pl.columns p ≡ inside
   inside-at = borders-are stands
 
 -- any post
-module _ {rows columns : ℕ} {hs : List ℤ} (fits : Fits rows columns hs) (p : ℕ) (post : p < rows * columns) where
+module _ {pl : Plot} (fits : Fits pl) (p : ℕ) (post : p < posts pl) where
   abbrev at : Borders
-  at = bordersOf rows columns p
+  at = bordersOf pl.rows pl.columns p
 
   -- the posts of the cells that are there
-  pub room-cells : Room (length hs) columns p at (cells at)
+  pub room-cells : Room (length pl.heights) pl.columns p at (cells at)
   room-cells =
-      let r = room fits p post (throughLowest (below hs) columns) in
+      let r = room fits p post (fallsIn pl) in
       record {
         post = r .post;
         small = r .small;
@@ -369,10 +370,10 @@ module _ {rows columns : ℕ} {hs : List ℤ} (fits : Fits rows columns hs) (p :
         northWest = λ k. let b = both (at .first) (at .top) k in northWest fits p post (b .0) (b .1);
       }
 
-  pub up-block : nextBy true rows columns hs p ≡ scan (toward hs true) p (turn columns p at (cornersAbove (below hs) columns p at))
+  pub up-block : nextBy true pl p ≡ scan (toward pl.heights true) p (turn pl.columns p at (cornersAbove (below pl) pl.columns p at))
   up-block =
       up-is fits p post
-      ∙ corners-above (below hs) (below-strict hs) columns p (fits .columnsLow) at (north fits p post) (λ f. room-cells .west (ap not f)) (northWest fits p post) (throughLowest (below hs) columns) refl
+      ∙ corners-above (below pl) (below-strict pl.heights) pl.columns p (fits .columnsLow) at (north fits p post) (λ f. room-cells .west (ap not f)) (northWest fits p post) (fallsIn pl) refl
 
-  pub room-inside : isBorder rows columns p ≡ false → Room (length hs) columns p inside (cells inside)
-  room-inside border = subst (λ (b : Borders). Room (length hs) columns p b (cells b)) (inside-at fits p post border) room-cells
+  pub room-inside : isBorder pl.rows pl.columns p ≡ false → Room (length pl.heights) pl.columns p inside (cells inside)
+  room-inside border = subst (λ (b : Borders). Room (length pl.heights) pl.columns p b (cells b)) (inside-at fits p post border) room-cells

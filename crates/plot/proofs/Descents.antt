@@ -6,7 +6,7 @@ use mathlib.Core.Logic.{⊎-elim}
 use mathlib.Core.Bool.{Bool, true, false}
 use mathlib.Core.List.{List}
 use lib.IntN.{ℤ}
-use Rattle.surface.specs.Plot.{virtualPit}
+use Rattle.surface.specs.Plot.{Plot, posts, virtualPit}
 use Rattle.surface.specs.Marks.{ringOf}
 use Rattle.surface.specs.Lines.{next, lowestOf, nextDown, nextUp}
 use Rattle.surface.proofs.Walks.{Vertex, Descent}
@@ -17,21 +17,21 @@ use Rattle.plot.proofs.Round.{few, fits-sides}
 use Rattle.plot.proofs.Extreme.{toward-strict}
 
 -- document 01's next down and next up
-pub next-by : (rows columns : ℕ) (hs : List ℤ) (up : Bool) (p : ℕ) → nextBy up rows columns hs p ≡ next (toward hs up) (ringOf rows columns hs) (lowestOf (toward hs up)) p
+pub next-by : (pl : Plot) (up : Bool) (p : ℕ) → nextBy up pl p ≡ next (toward pl.heights up) (ringOf pl) (lowestOf (toward pl.heights up)) p
 unfolding nextDown nextUp
-next-by rows columns hs true p = refl
-next-by rows columns hs false p = refl
+next-by pl true p = refl
+next-by pl false p = refl
 
-module _ {rows columns : ℕ} {hs : List ℤ} (fits : Fits rows columns hs) where
+module _ {pl : Plot} (fits : Fits pl) where
   -- no post has the virtual pit's number
-  pub fit : rows * columns ≤ virtualPit
+  pub fit : posts pl ≤ virtualPit
   unfolding virtualPit
   fit = omega (arith, few fits)
 
-  pub descent : (up : Bool) → Descent (rows * columns) (toward hs up) (ringOf rows columns hs) (lowestOf (toward hs up))
-  descent up = lowest-descent (fits-sides fits) fit hs (toward-strict hs up)
+  pub descent : (up : Bool) → Descent (posts pl) (toward pl.heights up) (ringOf pl) (lowestOf (toward pl.heights up))
+  descent up = lowest-descent pl (fits-sides fits) fit (toward-strict pl.heights up)
 
   -- a vertex fits 16 bits
-  pub vertex-low : (p : ℕ) → Vertex (rows * columns) p → p < 65536
+  pub vertex-low : (p : ℕ) → Vertex (posts pl) p → p < 65536
   unfolding virtualPit
-  vertex-low p v = ⊎-elim (λ (h : p < rows * columns). omega (arith, few fits)) (λ (h : p ≡ virtualPit). omega arith) v
+  vertex-low p v = ⊎-elim (λ (h : p < posts pl). omega (arith, few fits)) (λ (h : p ≡ virtualPit). omega arith) v

@@ -8,8 +8,8 @@ use lib.Dec.{eqb}
 use lib.IntN.{ℤ}
 use lib.Signed.{ltZ}
 use borrow.Author.Tests.{eq-eqb, ne-eqb}
-use Rattle.surface.specs.Plot.{height, virtualPit, below}
-use Rattle.surface.specs.Edges.{lowest, lowestOr, throughLowest}
+use Rattle.surface.specs.Plot.{belowBy, height, virtualPit}
+use Rattle.surface.specs.Edges.{throughLowest, lowest, lowestOr}
 use Rattle.surface.proofs.Bools.{either}
 use Rattle.surface.proofs.Order.{ltZ-trans}
 use Rattle.plot.proofs.Order.{ltZ-le, below-high}
@@ -88,7 +88,7 @@ module _ (hs : List ℤ) (a b c d : ℕ) (ab : a < b) (bc : b < c) (cd : c < d) 
   at-inner x ax xd true = rw (eq-eqb d d refl, or-true)
   at-inner x ax xd false = rw (ne-eqb x a (omega arith), ne-eqb x d (omega arith))
 
-  found : outer (lowest (below hs) (a ∷ b ∷ c ∷ d ∷ [])) ≡ byTurns heightsOf
+  found : outer (lowest (belowBy hs) (a ∷ b ∷ c ∷ d ∷ [])) ≡ byTurns heightsOf
   unfolding lowest lowestOr
   found =
       rw (below-high hs a b (omega arith) (omega arith))
@@ -109,7 +109,7 @@ abbrev pub cornersOf : List ℤ → ℕ → ℕ → Four
 cornersOf hs columns a =
     record { nw = height hs a; ne = height hs (a + 1); sw = height hs (a + columns); se = height hs (a + columns + 1) }
 
-pub falls-by : (hs : List ℤ) (columns a : ℕ) → 2 ≤ columns → a + columns + 1 < virtualPit → throughLowest (below hs) columns a ≡ fallsBy (cornersOf hs columns a)
+pub falls-by : (hs : List ℤ) (columns a : ℕ) → 2 ≤ columns → a + columns + 1 < virtualPit → throughLowest (belowBy hs) columns a ≡ fallsBy (cornersOf hs columns a)
 unfolding throughLowest outer
 falls-by hs columns a wide post =
     found hs a (a + 1) (a + columns) (a + columns + 1) (omega arith) (omega arith) (omega arith) post

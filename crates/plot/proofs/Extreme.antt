@@ -9,9 +9,9 @@ use lib.Dec.{eqb}
 use lib.IntN.{ℤ}
 use borrow.Author.Tests.{eqb-true, eqb-false, eq-eqb, ne-eqb}
 use Rattle.surface.specs.Lists.{keep, any, filter}
-use Rattle.surface.specs.Plot.{virtualPit, below, reversed}
-use Rattle.surface.specs.Edges.{lowest, lowestOr, Place, place, members, places, ring, top, bottom, first, last, isBorder, throughLowest}
-use Rattle.surface.specs.Marks.{ringOf}
+use Rattle.surface.specs.Plot.{Plot, posts, below, belowBy, virtualPit, reversed}
+use Rattle.surface.specs.Edges.{lowest, lowestOr, Place, place, members, places, ring, top, bottom, first, last, isBorder}
+use Rattle.surface.specs.Marks.{fallsIn, ringOf}
 use Rattle.surface.specs.Lines.{isEnd, next, lowestOf, nextDown, nextUp}
 use Rattle.surface.proofs.Bools.{either}
 use Rattle.surface.proofs.Order.{StrictTotal, reversed-strict, below-strict, pit-below}
@@ -153,41 +153,41 @@ pub toward-strict : (hs : List ℤ) (up : Bool) → StrictTotal (toward hs up)
 toward-strict hs true = reversed-strict (below-strict hs)
 toward-strict hs false = below-strict hs
 
-module _ {rows columns : ℕ} {hs : List ℤ} (fits : Fits rows columns hs) (p : ℕ) (post : p < rows * columns) where
+module _ {pl : Plot} (fits : Fits pl) (p : ℕ) (post : p < posts pl) where
   abbrev t : Bool
-  t = top rows columns p
+  t = top pl.rows pl.columns p
 
   abbrev b : Bool
-  b = bottom rows columns p
+  b = bottom pl.rows pl.columns p
 
   abbrev f : Bool
-  f = first rows columns p
+  f = first pl.rows pl.columns p
 
   abbrev l : Bool
-  l = last rows columns p
+  l = last pl.rows pl.columns p
 
   module _ (lower : ℕ → ℕ → Bool) (falls : ℕ → Bool) where
-    turned : (isBorder rows columns p ≡ true → (x : ℕ) → lower virtualPit x ≡ false)
-        → scan lower p (places rows columns falls p) ≡ scan lower p (turn columns p (bordersOf rows columns p) (cornersOf rows columns falls p))
+    turned : (isBorder pl.rows pl.columns p ≡ true → (x : ℕ) → lower virtualPit x ≡ false)
+        → scan lower p (places pl.rows pl.columns falls p) ≡ scan lower p (turn pl.columns p (bordersOf pl.rows pl.columns p) (cornersOf pl.rows pl.columns falls p))
     unfolding places Alike
     turned pit =
-        let with = cornersOf rows columns falls p in
+        let with = cornersOf pl.rows pl.columns falls p in
         alike-scan lower p _ _ (
-          side lower t true (p - columns) (λ e. refl) (λ e. pit (rw e)),
+          side lower t true (p - pl.columns) (λ e. refl) (λ e. pit (rw e)),
           (
-            corner lower (with .ne) (p - columns + 1) (p - (columns - 1)) (λ k. omega (arith, north fits p post (off t l (not (falls (p - columns))) k .0))),
+            corner lower (with .ne) (p - pl.columns + 1) (p - (pl.columns - 1)) (λ k. omega (arith, north fits p post (off t l (not (falls (p - pl.columns))) k .0))),
             (
               side lower l (not (l && t)) (p + 1) (λ e. rw e) (λ e. pit (simp (e, or-true))),
               (
-                corner lower (with .se) (p + columns + 1) (p + (columns + 1)) (λ k. omega arith),
+                corner lower (with .se) (p + pl.columns + 1) (p + (pl.columns + 1)) (λ k. omega arith),
                 (
-                  side lower b (not (b && (t || l))) (p + columns) (λ e. rw e) (λ e. pit (simp (e, or-true))),
+                  side lower b (not (b && (t || l))) (p + pl.columns) (λ e. rw e) (λ e. pit (simp (e, or-true))),
                   (
-                    corner lower (with .sw) (p + columns - 1) (p + (columns - 1)) (λ k. omega arith),
+                    corner lower (with .sw) (p + pl.columns - 1) (p + (pl.columns - 1)) (λ k. omega arith),
                     (
                       side lower f (not (f && (t || (l || b)))) (p - 1) (λ e. rw e) (λ e. pit (simp (e, or-true))),
                       (
-                        corner lower (with .nw) (p - columns - 1) (p - (columns + 1)) (λ k. omega arith),
+                        corner lower (with .nw) (p - pl.columns - 1) (p - (pl.columns + 1)) (λ k. omega arith),
                         tt,
                       ),
                     ),
@@ -198,41 +198,41 @@ module _ {rows columns : ℕ} {hs : List ℤ} (fits : Fits rows columns hs) (p :
           ),
         )
 
-  nothing-below : (x : ℕ) → below hs x virtualPit ≡ false
-  unfolding below
+  nothing-below : (x : ℕ) → below pl x virtualPit ≡ false
+  unfolding belowBy
   nothing-below x = rw (eq-eqb virtualPit virtualPit refl)
 
-  pub up-is : nextUp rows columns hs p ≡ scan (toward hs true) p (turn columns p (bordersOf rows columns p) (cornersOf rows columns (throughLowest (below hs) columns) p))
+  pub up-is : nextUp pl p ≡ scan (toward pl.heights true) p (turn pl.columns p (bordersOf pl.rows pl.columns p) (cornersOf pl.rows pl.columns (fallsIn pl) p))
   unfolding nextUp next isEnd ringOf ring
   up-is =
-      let o = reversed-strict (below-strict hs) in
-      let falls = throughLowest (below hs) columns in
-      next-scan (reversed (below hs)) o p (places rows columns falls p) (no-pit fits p post)
-      ∙ turned (reversed (below hs)) falls (λ _. nothing-below)
+      let o = reversed-strict (below-strict pl.heights) in
+      let falls = fallsIn pl in
+      next-scan (reversed (below pl)) o p (places pl.rows pl.columns falls p) (no-pit fits p post)
+      ∙ turned (reversed (below pl)) falls (λ _. nothing-below)
 
-  pub down-is : isBorder rows columns p ≡ false
-      → nextDown rows columns hs p ≡ scan (toward hs false) p (turn columns p (bordersOf rows columns p) (cornersOf rows columns (throughLowest (below hs) columns) p))
+  pub down-is : isBorder pl.rows pl.columns p ≡ false
+      → nextDown pl p ≡ scan (toward pl.heights false) p (turn pl.columns p (bordersOf pl.rows pl.columns p) (cornersOf pl.rows pl.columns (fallsIn pl) p))
   unfolding nextDown next isEnd ringOf ring
   down-is h =
-      let o = below-strict hs in
-      let falls = throughLowest (below hs) columns in
-      next-scan (below hs) o p (places rows columns falls p) (no-pit fits p post)
-      ∙ turned (below hs) falls (λ k. absurd (true≢false (sym k ∙ h)))
+      let o = below-strict pl.heights in
+      let falls = fallsIn pl in
+      next-scan (below pl) o p (places pl.rows pl.columns falls p) (no-pit fits p post)
+      ∙ turned (below pl) falls (λ k. absurd (true≢false (sym k ∙ h)))
 
-  pub down-pit : isBorder rows columns p ≡ true → nextDown rows columns hs p ≡ virtualPit
+  pub down-pit : isBorder pl.rows pl.columns p ≡ true → nextDown pl p ≡ virtualPit
   unfolding nextDown next isEnd ringOf ring places
   down-pit h =
-      next-scan (below hs) (below-strict hs) p (places rows columns (throughLowest (below hs) columns) p) (no-pit fits p post)
-      ∙ border-pit (below hs) (below-strict hs) p (pit-below hs p (no-pit fits p post)) nothing-below _ _ _ _ _ _ _ _ t l b f h
+      next-scan (below pl) (below-strict pl.heights) p (places pl.rows pl.columns (fallsIn pl) p) (no-pit fits p post)
+      ∙ border-pit (below pl) (below-strict pl.heights) p (pit-below pl.heights p (no-pit fits p post)) nothing-below _ _ _ _ _ _ _ _ t l b f h
 
 -- a post on no border
-module _ {rows columns : ℕ} {hs : List ℤ} {p : ℕ} {nw ne sw se : Bool} (i : Inside rows columns hs p nw ne sw se) where
-  pub next-is : (up : Bool) → nextBy up rows columns hs p ≡ scan (toward hs up) p (turn columns p inside (cornersBy nw ne sw se))
+module _ {pl : Plot} {p : ℕ} {nw ne sw se : Bool} (i : Inside pl p nw ne sw se) where
+  pub next-is : (up : Bool) → nextBy up pl p ≡ scan (toward pl.heights up) p (turn pl.columns p inside (cornersBy nw ne sw se))
   next-is up =
       go up
-      ∙ ap (λ (at : Borders). scan (toward hs up) p (turn columns p at (cornersOf rows columns (throughLowest (below hs) columns) p))) (borders-are i)
-      ∙ ap (λ (with : Corners). scan (toward hs up) p (turn columns p inside with)) (corners-are i)
+      ∙ ap (λ (at : Borders). scan (toward pl.heights up) p (turn pl.columns p at (cornersOf pl.rows pl.columns (fallsIn pl) p))) (borders-are i)
+      ∙ ap (λ (with : Corners). scan (toward pl.heights up) p (turn pl.columns p inside with)) (corners-are i)
     where
-      go : (up : Bool) → nextBy up rows columns hs p ≡ scan (toward hs up) p (turn columns p (bordersOf rows columns p) (cornersOf rows columns (throughLowest (below hs) columns) p))
+      go : (up : Bool) → nextBy up pl p ≡ scan (toward pl.heights up) p (turn pl.columns p (bordersOf pl.rows pl.columns p) (cornersOf pl.rows pl.columns (fallsIn pl) p))
       go true = up-is (i .fits) p (i .post)
       go false = down-is (i .fits) p (i .post) (i .border)

@@ -8,7 +8,7 @@ use lib.Dec.{ltb}
 use lib.IntN.{ℤ, pos, negsuc, _+ℤ_}
 use lib.Signed.{ltZ}
 use borrow.Author.Tests.{ltb-true, ltb-false, lt-ltb, le-ltb, not-true}
-use Rattle.surface.specs.Plot.{isHeight, height, virtualPit, below}
+use Rattle.surface.specs.Plot.{Plot, posts, below, belowBy, isHeight, height, virtualPit}
 use Rattle.surface.specs.Edges.{lowestOr, Place, isBorder}
 use Rattle.surface.proofs.Bools.{either, and-left}
 use Rattle.surface.proofs.Order.{below-lex}
@@ -89,7 +89,7 @@ module _ (hs : List ℤ) (columns p : ℕ) where
     key-level : (q r : ℕ) → Near columns p q → Near columns p r → raised (height hs q) ≡ raised (height hs r) → ltb (key q) (key r) ≡ ltb q r
     key-level q r m n h = both q r (key q) (key r) (λ e. omega arith) (λ e. omega arith)
 
-    key-below : (q r : ℕ) → Near columns p q → Near columns p r → ltb (key q) (key r) ≡ below hs q r
+    key-below : (q r : ℕ) → Near columns p q → Near columns p r → ltb (key q) (key r) ≡ belowBy hs q r
     unfolding virtualPit
     key-below q r m n =
         either (ltZ a b)
@@ -105,7 +105,7 @@ module _ (hs : List ℤ) (columns p : ℕ) where
         b : ℤ
         b = height hs r
 
-        lex : below hs q r ≡ ltZ a b || (not (ltZ b a) && ltb q r)
+        lex : belowBy hs q r ≡ ltZ a b || (not (ltZ b a) && ltb q r)
         lex = below-lex hs q r (λ e. omega arith) (λ e. omega arith)
 
         later : key r < key q → key r ≤ key q
@@ -151,18 +151,18 @@ module _ (hs : List ℤ) (columns p : ℕ) where
     -- a corner that is kept where both sides x and y are above p; a and b: a border on which x, or y, is not there
     kept : (a b : Bool) (x y q : ℕ) → Near columns p x → Near columns p y
         → cond (ltb (key p) (key (cond (not a) x p)) && ltb (key p) (key (cond (not b) y p))) (key (cond (not a && not b) q p)) (key p)
-        ≡ key (cond (not a && (not b && (below hs p x && below hs p y))) q p)
+        ≡ key (cond (not a && (not b && (belowBy hs p x && belowBy hs p y))) q p)
     kept true b x y q n m = level (ltb (key p) (key p) && ltb (key p) (key (cond (not b) y p))) (key p)
     kept false true x y q n m = level (ltb (key p) (key x) && ltb (key p) (key p)) (key p)
     kept false false x y q n m =
-        rw (key-below p x (omega arith, omega arith) n, key-below p y (omega arith, omega arith) m) (pull (below hs p x && below hs p y))
+        rw (key-below p x (omega arith, omega arith) n, key-below p y (omega arith, omega arith) m) (pull (belowBy hs p x && belowBy hs p y))
       where
         pull : (g : Bool) → cond g (key q) (key p) ≡ key (cond g q p)
         pull true = refl
         pull false = refl
 
     -- the block with its corners kept is that of the corners above p
-    kept-keys : (at : Borders) → around (cornersKept (blockOf key columns p at)) ≡ keys (turn columns p at (cornersAbove (below hs) columns p at))
+    kept-keys : (at : Borders) → around (cornersKept (blockOf key columns p at)) ≡ keys (turn columns p at (cornersAbove (belowBy hs) columns p at))
     unfolding keys
     kept-keys at =
         let n : Near columns p (p - columns) = omega arith in
@@ -177,29 +177,29 @@ module _ (hs : List ℤ) (columns p : ℕ) where
         )
 
 -- next down and next up, by the lowest and the highest key
-module _ {rows columns : ℕ} {hs : List ℤ} (l : Levelled rows columns hs) (p : ℕ) (post : p < rows * columns) where
+module _ {pl : Plot} (l : Levelled pl) (p : ℕ) (post : p < posts pl) where
   abbrev block : Borders → Block
-  block = blockOf (keyOf hs columns p) columns p
+  block = blockOf (keyOf pl.heights pl.columns p) pl.columns p
 
   small : p < 14400
   small = omega (arith, few (l .fits))
 
-  told : (up : Bool) (k : ℕ) (at : Borders) (with : Corners) → k ≡ lowestOr (order up) (keyOf hs columns p p) (keys hs columns p (turn columns p at with))
-      → nextBy up rows columns hs p ≡ scan (toward hs up) p (turn columns p at with) → Tells hs columns p k (nextBy up rows columns hs p)
-  told up k at with e f = found-told hs columns p (l .inRange) (l .fits .columnsHigh) small up k _ _ (turn-near columns p at with) e f
+  told : (up : Bool) (k : ℕ) (at : Borders) (with : Corners) → k ≡ lowestOr (order up) (keyOf pl.heights pl.columns p p) (keys pl.heights pl.columns p (turn pl.columns p at with))
+      → nextBy up pl p ≡ scan (toward pl.heights up) p (turn pl.columns p at with) → Tells pl.heights pl.columns p k (nextBy up pl p)
+  told up k at with e f = found-told pl.heights pl.columns p (l .inRange) (l .fits .columnsHigh) small up k _ _ (turn-near pl.columns p at with) e f
 
-  pub up-told : (k : ℕ) → k ≡ lowestOr (order true) (keyOf hs columns p p) (around (cornersKept (block (bordersOf rows columns p)))) → Tells hs columns p k (nextBy true rows columns hs p)
+  pub up-told : (k : ℕ) → k ≡ lowestOr (order true) (keyOf pl.heights pl.columns p p) (around (cornersKept (block (bordersOf pl.rows pl.columns p)))) → Tells pl.heights pl.columns p k (nextBy true pl p)
   up-told k e =
-      let at = bordersOf rows columns p in
-      told true k at (cornersAbove (below hs) columns p at)
-      (e ∙ ap (lowestOr (order true) (keyOf hs columns p p)) (kept-keys hs columns p (l .inRange) (l .fits .columnsHigh) small at))
+      let at = bordersOf pl.rows pl.columns p in
+      told true k at (cornersAbove (below pl) pl.columns p at)
+      (e ∙ ap (lowestOr (order true) (keyOf pl.heights pl.columns p p)) (kept-keys pl.heights pl.columns p (l .inRange) (l .fits .columnsHigh) small at))
       (up-block (l .fits) p post)
 
-  pub up-inside-told : isBorder rows columns p ≡ false → (k : ℕ) → k ≡ lowestOr (order true) (keyOf hs columns p p) (around (cornersKept (block inside)))
-      → Tells hs columns p k (nextBy true rows columns hs p)
+  pub up-inside-told : isBorder pl.rows pl.columns p ≡ false → (k : ℕ) → k ≡ lowestOr (order true) (keyOf pl.heights pl.columns p p) (around (cornersKept (block inside)))
+      → Tells pl.heights pl.columns p k (nextBy true pl p)
   up-inside-told border k e =
-      up-told k (e ∙ ap (λ (at : Borders). lowestOr (order true) (keyOf hs columns p p) (around (cornersKept (block at)))) (sym (inside-at (l .fits) p post border)))
+      up-told k (e ∙ ap (λ (at : Borders). lowestOr (order true) (keyOf pl.heights pl.columns p p) (around (cornersKept (block at)))) (sym (inside-at (l .fits) p post border)))
 
-  pub down-told : isBorder rows columns p ≡ false → (k : ℕ) → k ≡ lowestOr (order false) (keyOf hs columns p p) (around (block inside)) → Tells hs columns p k (nextBy false rows columns hs p)
+  pub down-told : isBorder pl.rows pl.columns p ≡ false → (k : ℕ) → k ≡ lowestOr (order false) (keyOf pl.heights pl.columns p p) (around (block inside)) → Tells pl.heights pl.columns p k (nextBy false pl p)
   unfolding keys
   down-told border k e = told false k inside everyCorner e (down-block (l .fits) p post border)

@@ -7,7 +7,7 @@ use native.Mathlib.Omega.{arith}
 use lib.IntN.{ℤ, pos, negsuc}
 use lib.Signed.{ltZ}
 use borrow.Author.Tests.{ltb-true, ltb-false, lt-ltb, le-ltb}
-use Rattle.surface.specs.Plot.{height, virtualPit, below}
+use Rattle.surface.specs.Plot.{belowBy, height, virtualPit}
 use Rattle.surface.proofs.Order.{ltZ-asym, below-lex}
 
 -- what is less than b is less than all that are not less than b
@@ -27,12 +27,12 @@ either false y h = refl
 
 module _ (hs : List ℤ) (p q : ℕ) (less : p < q) (post : q < virtualPit) where
   -- the higher-numbered post is below the other where its height is less
-  pub below-high : below hs q p ≡ ltZ (height hs q) (height hs p)
+  pub below-high : belowBy hs q p ≡ ltZ (height hs q) (height hs p)
   unfolding virtualPit
   below-high = rw (below-lex hs q p (omega arith) (omega arith), le-ltb q p (omega arith), and-false, or-false)
 
   -- the lower-numbered one where the other's height is not less
-  pub below-low : below hs p q ≡ not (ltZ (height hs q) (height hs p))
+  pub below-low : belowBy hs p q ≡ not (ltZ (height hs q) (height hs p))
   unfolding virtualPit
   below-low =
       rw (below-lex hs p q (omega arith) (omega arith), lt-ltb p q (omega arith), and-true)

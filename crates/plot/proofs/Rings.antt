@@ -11,7 +11,7 @@ use lib.ListN.{length, take, set, length-set}
 use lib.Seq.{take-suc-set, take-set-le, length-take-le}
 use mir.Val.{boolByte}
 use Rattle.surface.specs.Lists.{keep}
-use Rattle.surface.specs.Plot.{virtualPit}
+use Rattle.surface.specs.Plot.{Plot, posts, virtualPit}
 use Rattle.surface.specs.Edges.{Place, place, members, places, ring, top, bottom, first, last}
 use Rattle.plot.specs.declared.ring.Ring.{Ring}
 use Rattle.plot.specs.Fits.{Fits}
@@ -63,8 +63,8 @@ corner : (b : Bool) (x y : ℕ) → (b ≡ true → x ≡ y) → keep b (cond b 
 corner true x y h = rw (h refl)
 corner false x y h = refl
 
-module _ {rows columns : ℕ} {hs : List ℤ} (fits : Fits rows columns hs) (p : ℕ) (post : p < rows * columns) (falls : ℕ → Bool) where
-  pub ring-room : RingRoom columns p (bordersOf rows columns p) (cornersOf rows columns falls p)
+module _ {pl : Plot} (fits : Fits pl) (p : ℕ) (post : p < posts pl) (falls : ℕ → Bool) where
+  pub ring-room : RingRoom pl.columns p (bordersOf pl.rows pl.columns p) (cornersOf pl.rows pl.columns falls p)
   ring-room =
       let r = room fits p post falls in
       record {
@@ -77,19 +77,19 @@ module _ {rows columns : ℕ} {hs : List ℤ} (fits : Fits rows columns hs) (p :
         northWest = r .northWest;
       }
 
-  pub ring-is : members (ringPlaces columns p (bordersOf rows columns p) (cornersOf rows columns falls p)) ≡ ring rows columns falls p
+  pub ring-is : members (ringPlaces pl.columns p (bordersOf pl.rows pl.columns p) (cornersOf pl.rows pl.columns falls p)) ≡ ring pl.rows pl.columns falls p
   unfolding ringPlaces ring places
   ring-is =
-      let t = top rows columns p in
-      let b = bottom rows columns p in
-      let f = first rows columns p in
-      let l = last rows columns p in
-      let with = cornersOf rows columns falls p in
-      same _ _ _ _ (side true t (p - columns))
-      (same _ _ _ _ (corner (with .ne) (p - (columns - 1)) (p - columns + 1) (λ k. omega (arith, north fits p post (off t l (not (falls (p - columns))) k .0))))
+      let t = top pl.rows pl.columns p in
+      let b = bottom pl.rows pl.columns p in
+      let f = first pl.rows pl.columns p in
+      let l = last pl.rows pl.columns p in
+      let with = cornersOf pl.rows pl.columns falls p in
+      same _ _ _ _ (side true t (p - pl.columns))
+      (same _ _ _ _ (corner (with .ne) (p - (pl.columns - 1)) (p - pl.columns + 1) (λ k. omega (arith, north fits p post (off t l (not (falls (p - pl.columns))) k .0))))
       (same _ _ _ _ (side (not (l && t)) l (p + 1))
-      (same _ _ _ _ (corner (with .se) (p + (columns + 1)) (p + columns + 1) (λ k. omega arith))
-      (same _ _ _ _ (side (not (b && (t || l))) b (p + columns))
-      (same _ _ _ _ (corner (with .sw) (p + (columns - 1)) (p + columns - 1) (λ k. omega arith))
+      (same _ _ _ _ (corner (with .se) (p + (pl.columns + 1)) (p + pl.columns + 1) (λ k. omega arith))
+      (same _ _ _ _ (side (not (b && (t || l))) b (p + pl.columns))
+      (same _ _ _ _ (corner (with .sw) (p + (pl.columns - 1)) (p + pl.columns - 1) (λ k. omega arith))
       (same _ _ _ _ (side (not (f && (t || (l || b)))) f (p - 1))
-      (same _ _ _ _ (corner (with .nw) (p - (columns + 1)) (p - columns - 1) (λ k. omega arith)) refl)))))))
+      (same _ _ _ _ (corner (with .nw) (p - (pl.columns + 1)) (p - pl.columns - 1) (λ k. omega arith)) refl)))))))

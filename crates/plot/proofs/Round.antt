@@ -10,9 +10,9 @@ use lib.IntN.{ℤ}
 use lib.ListN.{length}
 use borrow.Author.Tests.{not-true}
 use Rattle.surface.specs.Lists.{keep}
-use Rattle.surface.specs.Plot.{virtualPit, below}
-use Rattle.surface.specs.Edges.{top, bottom, first, last, Place, members, places, ring, throughLowest}
-use Rattle.surface.specs.Marks.{ringOf, markAt}
+use Rattle.surface.specs.Plot.{Plot, posts, below, virtualPit}
+use Rattle.surface.specs.Edges.{top, bottom, first, last, Place, members, places, ring}
+use Rattle.surface.specs.Marks.{fallsIn, ringOf, markAt}
 use Rattle.surface.proofs.Bools.{and-left, or-left, or-right}
 use Rattle.surface.proofs.Grid.{Sides, top-false, bottom-false, not-first, top-bottom, last-first, south-last, north-first, east-post}
 use Rattle.surface.proofs.Order.{below-strict, pit-below}
@@ -130,10 +130,10 @@ apart-members p (y ∷ l) a q m e =
     ⊎-elim (λ k. apart-one p (y .taken) (y .member) (a .0) k e) (λ k. apart-members p l (a .1) q k e) (List·Memᴰ·append-cases (keep (y .taken) (y .member)) m)
 
 -- a plot has at most 14,400 posts
-pub few : {rows columns : ℕ} {hs : List ℤ} → Fits rows columns hs → rows * columns ≤ 14400
+pub few : {pl : Plot} → Fits pl → posts pl ≤ 14400
 few fits = mul-le-mul (fits .rowsHigh) (fits .columnsHigh)
 
-pub fits-sides : {rows columns : ℕ} {hs : List ℤ} → Fits rows columns hs → Sides rows columns
+pub fits-sides : {pl : Plot} → Fits pl → Sides pl.rows pl.columns
 fits-sides fits = record { tall = fits .rowsLow; wide = fits .columnsLow }
 
 pub both : (a b : Bool) → not a && not b ≡ true → (a ≡ false) × (b ≡ false)
@@ -141,8 +141,8 @@ both true b h = absurd (true≢false (sym h))
 both false true h = absurd (true≢false (sym h))
 both false false h = (refl, refl)
 
-module _ {rows columns : ℕ} {hs : List ℤ} (fits : Fits rows columns hs) (p : ℕ) (post : p < rows * columns) where
-  sides : Sides rows columns
+module _ {pl : Plot} (fits : Fits pl) (p : ℕ) (post : p < posts pl) where
+  sides : Sides pl.rows pl.columns
   sides = fits-sides fits
 
   pub no-pit : p ≡ virtualPit → ⊥
@@ -150,62 +150,62 @@ module _ {rows columns : ℕ} {hs : List ℤ} (fits : Fits rows columns hs) (p :
   no-pit = omega (arith, few fits)
 
   -- each neighbour that is there is a post
-  pub north : top rows columns p ≡ false → columns ≤ p
+  pub north : top pl.rows pl.columns p ≡ false → pl.columns ≤ p
   north t = top-false sides p .0 t
 
-  pub south : bottom rows columns p ≡ false → p + columns < rows * columns
+  pub south : bottom pl.rows pl.columns p ≡ false → p + pl.columns < posts pl
   south b = bottom-false sides p post .0 b
 
   pit-or : (b : Bool) (x : ℕ) → (b ≡ false → x ≡ p → ⊥) → cond b virtualPit x ≡ p → ⊥
   pit-or true x h e = no-pit (sym e)
   pit-or false x h e = h refl e
 
-  pub southEast : last rows columns p ≡ false → bottom rows columns p ≡ false → p + columns + 1 < rows * columns
-  southEast l b = east-post sides (p + columns) (south b) (south-last sides p ∙ l)
+  pub southEast : last pl.rows pl.columns p ≡ false → bottom pl.rows pl.columns p ≡ false → p + pl.columns + 1 < posts pl
+  southEast l b = east-post sides (p + pl.columns) (south b) (south-last sides p ∙ l)
 
-  pub northWest : first rows columns p ≡ false → top rows columns p ≡ false → columns + 1 ≤ p
-  northWest f t = omega (arith, north t, not-first sides (p - columns) (north-first sides p t ∙ f))
+  pub northWest : first pl.rows pl.columns p ≡ false → top pl.rows pl.columns p ≡ false → pl.columns + 1 ≤ p
+  northWest f t = omega (arith, north t, not-first sides (p - pl.columns) (north-first sides p t ∙ f))
 
   pub signs-are : (falls low : ℕ → Bool) → low virtualPit ≡ true
-      → asSigns (signsOf low columns p (bordersOf rows columns p) (cornersOf rows columns falls p)) ≡ signs rows columns falls low p
+      → asSigns (signsOf low pl.columns p (bordersOf pl.rows pl.columns p) (cornersOf pl.rows pl.columns falls p)) ≡ signs pl.rows pl.columns falls low p
   unfolding signsOf signs carried places
   signs-are falls low h =
-      let with = cornersOf rows columns falls p in
-      let nw : p - (columns + 1) ≡ p - columns - 1 = omega arith in
-      let sw : p + (columns - 1) ≡ p + columns - 1 = omega arith in
-      let se : p + (columns + 1) ≡ p + columns + 1 = omega arith in
+      let with = cornersOf pl.rows pl.columns falls p in
+      let nw : p - (pl.columns + 1) ≡ p - pl.columns - 1 = omega arith in
+      let sw : p + (pl.columns - 1) ≡ p + pl.columns - 1 = omega arith in
+      let se : p + (pl.columns + 1) ≡ p + pl.columns + 1 = omega arith in
       rw (
         nw,
         sw,
         se,
-        same-where low (with .ne) (p - (columns - 1)) (p - columns + 1) (cond (not (top rows columns p)) (low (p - columns)) true)
+        same-where low (with .ne) (p - (pl.columns - 1)) (p - pl.columns + 1) (cond (not (top pl.rows pl.columns p)) (low (p - pl.columns)) true)
             (λ k. omega (arith, north (not-true _ (and-left _ _ k)))),
       )
       (by-borders low
-      (record { n = p - columns; ne = p - columns + 1; e = p + 1; se = p + columns + 1; s = p + columns; sw = p + columns - 1; w = p - 1; nw = p - columns - 1 })
-      (record { fne = falls (p - columns); fse = falls p; fsw = falls (p - 1); fnw = falls (p - columns - 1) })
+      (record { n = p - pl.columns; ne = p - pl.columns + 1; e = p + 1; se = p + pl.columns + 1; s = p + pl.columns; sw = p + pl.columns - 1; w = p - 1; nw = p - pl.columns - 1 })
+      (record { fne = falls (p - pl.columns); fse = falls p; fsw = falls (p - 1); fnw = falls (p - pl.columns - 1) })
       h
-      (top rows columns p)
-      (bottom rows columns p)
-      (first rows columns p)
-      (last rows columns p)
+      (top pl.rows pl.columns p)
+      (bottom pl.rows pl.columns p)
+      (first pl.rows pl.columns p)
+      (last pl.rows pl.columns p)
       (top-bottom sides p)
       (last-first sides p))
 
   module _ (falls : ℕ → Bool) where
     abbrev t : Bool
-    t = top rows columns p
+    t = top pl.rows pl.columns p
 
     abbrev b : Bool
-    b = bottom rows columns p
+    b = bottom pl.rows pl.columns p
 
     abbrev f : Bool
-    f = first rows columns p
+    f = first pl.rows pl.columns p
 
     abbrev l : Bool
-    l = last rows columns p
+    l = last pl.rows pl.columns p
 
-    pub room : Room (length hs) columns p (bordersOf rows columns p) (cornersOf rows columns falls p)
+    pub room : Room (length pl.heights) pl.columns p (bordersOf pl.rows pl.columns p) (cornersOf pl.rows pl.columns falls p)
     room =
         record {
           post = omega arith;
@@ -222,10 +222,10 @@ module _ {rows columns : ℕ} {hs : List ℤ} (fits : Fits rows columns hs) (p :
           northWest = λ k. northWest (off f t _ k .0) (off f t _ k .1);
         }
 
-    apart : Apart p (places rows columns falls p)
+    apart : Apart p (places pl.rows pl.columns falls p)
     unfolding Apart places
     apart = (
-      λ k. pit-or t (p - columns) (λ h. omega (arith, north h)),
+      λ k. pit-or t (p - pl.columns) (λ h. omega (arith, north h)),
       (
         λ k. omega (arith, north (off t l _ k .0)),
         (
@@ -233,7 +233,7 @@ module _ {rows columns : ℕ} {hs : List ℤ} (fits : Fits rows columns hs) (p :
           (
             λ k. omega arith,
             (
-              λ k. pit-or b (p + columns) (λ h. omega arith),
+              λ k. pit-or b (p + pl.columns) (λ h. omega arith),
               (
                 λ k. omega arith,
                 (
@@ -251,56 +251,56 @@ module _ {rows columns : ℕ} {hs : List ℤ} (fits : Fits rows columns hs) (p :
     )
 
   -- the cells round p that are there
-  pub cell-ne : not (top rows columns p) && not (last rows columns p) ≡ true → (columns ≤ p) × (p - columns + columns + 1 < length hs)
-  cell-ne k = let h = both (top rows columns p) (last rows columns p) k in omega (arith, north (h .0), east-post sides p post (h .1))
+  pub cell-ne : not (top pl.rows pl.columns p) && not (last pl.rows pl.columns p) ≡ true → (pl.columns ≤ p) × (p - pl.columns + pl.columns + 1 < length pl.heights)
+  cell-ne k = let h = both (top pl.rows pl.columns p) (last pl.rows pl.columns p) k in omega (arith, north (h .0), east-post sides p post (h .1))
 
-  pub cell-se : not (last rows columns p) && not (bottom rows columns p) ≡ true → (0 ≤ p) × (p - 0 + columns + 1 < length hs)
-  cell-se k = let h = both (last rows columns p) (bottom rows columns p) k in omega (arith, southEast (h .0) (h .1))
+  pub cell-se : not (last pl.rows pl.columns p) && not (bottom pl.rows pl.columns p) ≡ true → (0 ≤ p) × (p - 0 + pl.columns + 1 < length pl.heights)
+  cell-se k = let h = both (last pl.rows pl.columns p) (bottom pl.rows pl.columns p) k in omega (arith, southEast (h .0) (h .1))
 
-  pub cell-sw : not (bottom rows columns p) && not (first rows columns p) ≡ true → (1 ≤ p) × (p - 1 + columns + 1 < length hs)
-  cell-sw k = let h = both (bottom rows columns p) (first rows columns p) k in omega (arith, south (h .0), not-first sides p (h .1))
+  pub cell-sw : not (bottom pl.rows pl.columns p) && not (first pl.rows pl.columns p) ≡ true → (1 ≤ p) × (p - 1 + pl.columns + 1 < length pl.heights)
+  cell-sw k = let h = both (bottom pl.rows pl.columns p) (first pl.rows pl.columns p) k in omega (arith, south (h .0), not-first sides p (h .1))
 
-  pub cell-nw : not (first rows columns p) && not (top rows columns p) ≡ true → (columns + 1 ≤ p) × (p - (columns + 1) + columns + 1 < length hs)
-  cell-nw k = let h = both (first rows columns p) (top rows columns p) k in omega (arith, northWest (h .0) (h .1))
+  pub cell-nw : not (first pl.rows pl.columns p) && not (top pl.rows pl.columns p) ≡ true → (pl.columns + 1 ≤ p) × (p - (pl.columns + 1) + pl.columns + 1 < length pl.heights)
+  cell-nw k = let h = both (first pl.rows pl.columns p) (top pl.rows pl.columns p) k in omega (arith, northWest (h .0) (h .1))
 
   -- document 01's mark of p, by its signs, and by its borders and corners
-  pub mark-by-signs : markAt rows columns hs p ≡ markOfSigns (signs rows columns (throughLowest (below hs) columns) (λ q. below hs q p) p)
+  pub mark-by-signs : markAt pl p ≡ markOfSigns (signs pl.rows pl.columns (fallsIn pl) (λ q. below pl q p) p)
   unfolding markAt ringOf ring
   mark-by-signs =
-      let falls = throughLowest (below hs) columns in
-      mark-signs (below hs) (below-strict hs) rows columns falls p (apart-members p (places rows columns falls p) (apart falls))
+      let falls = fallsIn pl in
+      mark-signs (below pl) (below-strict pl.heights) pl.rows pl.columns falls p (apart-members p (places pl.rows pl.columns falls p) (apart falls))
 
-  pub mark-by-corners : markAt rows columns hs p ≡ markOfSigns (asSigns (signsOf (λ q. below hs q p) columns p (bordersOf rows columns p) (cornersOf rows columns (throughLowest (below hs) columns) p)))
+  pub mark-by-corners : markAt pl p ≡ markOfSigns (asSigns (signsOf (λ q. below pl q p) pl.columns p (bordersOf pl.rows pl.columns p) (cornersOf pl.rows pl.columns (fallsIn pl) p)))
   mark-by-corners =
       mark-by-signs
-      ∙ ap markOfSigns (sym (signs-are (throughLowest (below hs) columns) (λ q. below hs q p) (pit-below hs p no-pit)))
+      ∙ ap markOfSigns (sym (signs-are (fallsIn pl) (λ q. below pl q p) (pit-below pl.heights p no-pit)))
 
 -- a post on no border
-module _ {rows columns : ℕ} {hs : List ℤ} {p : ℕ} {nw ne sw se : Bool} (i : Inside rows columns hs p nw ne sw se) where
-  off-top : top rows columns p ≡ false
+module _ {pl : Plot} {p : ℕ} {nw ne sw se : Bool} (i : Inside pl p nw ne sw se) where
+  off-top : top pl.rows pl.columns p ≡ false
   off-top = or-left _ _ (i .border)
 
-  pub off-last : last rows columns p ≡ false
-  off-last = or-left _ _ (or-right (top rows columns p) _ (i .border))
+  pub off-last : last pl.rows pl.columns p ≡ false
+  off-last = or-left _ _ (or-right (top pl.rows pl.columns p) _ (i .border))
 
-  off-bottom : bottom rows columns p ≡ false
-  off-bottom = or-left _ _ (or-right (last rows columns p) _ (or-right (top rows columns p) _ (i .border)))
+  off-bottom : bottom pl.rows pl.columns p ≡ false
+  off-bottom = or-left _ _ (or-right (last pl.rows pl.columns p) _ (or-right (top pl.rows pl.columns p) _ (i .border)))
 
-  pub off-first : first rows columns p ≡ false
-  off-first = or-right (bottom rows columns p) _ (or-right (last rows columns p) _ (or-right (top rows columns p) _ (i .border)))
+  pub off-first : first pl.rows pl.columns p ≡ false
+  off-first = or-right (bottom pl.rows pl.columns p) _ (or-right (last pl.rows pl.columns p) _ (or-right (top pl.rows pl.columns p) _ (i .border)))
 
   -- the posts round it are there
-  pub inside-bounds : (columns + 1 ≤ p) × (p + columns + 1 < length hs)
+  pub inside-bounds : (pl.columns + 1 ≤ p) × (p + pl.columns + 1 < length pl.heights)
   inside-bounds = (
     northWest (i .fits) p (i .post) off-first off-top,
     omega (arith, i .fits .size, southEast (i .fits) p (i .post) off-last off-bottom),
   )
 
-  pub borders-are : bordersOf rows columns p ≡ inside
+  pub borders-are : bordersOf pl.rows pl.columns p ≡ inside
   borders-are = rw (off-top, off-last, off-bottom, off-first)
 
-  pub corners-are : cornersOf rows columns (throughLowest (below hs) columns) p ≡ cornersBy nw ne sw se
+  pub corners-are : cornersOf pl.rows pl.columns (fallsIn pl) p ≡ cornersBy nw ne sw se
   corners-are = rw (off-top, off-last, off-bottom, off-first, i .nwFalls, i .neFalls, i .swFalls, i .seFalls)
 
-  pub mark-by-falls : markAt rows columns hs p ≡ markOfSigns (asSigns (signsOf (λ q. below hs q p) columns p inside (cornersBy nw ne sw se)))
+  pub mark-by-falls : markAt pl p ≡ markOfSigns (asSigns (signsOf (λ q. below pl q p) pl.columns p inside (cornersBy nw ne sw se)))
   mark-by-falls = mark-by-corners (i .fits) p (i .post) ∙ rw (borders-are, corners-are)

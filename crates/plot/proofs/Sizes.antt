@@ -9,7 +9,7 @@ use lib.Dec.{leb}
 use lib.IntN.{ℤ, pos}
 use lib.ListN.{length, getD}
 use Rattle.surface.specs.Lists.{all, firstNot}
-use Rattle.surface.specs.Plot.{isSide, isHeight}
+use Rattle.surface.specs.Plot.{Plot, posts, isSide, isHeight}
 use Rattle.surface.specs.Refusals.{verdict, row4}
 use Rattle.surface.proofs.Bools.{and-left, and-right, either}
 use Rattle.surface.proofs.FirstNot.{all-firstNot, ranged-all}
@@ -18,12 +18,12 @@ use Rattle.surface.proofs.Verdicts.{row-holds, row-passed, none-left, accepted-
 use Rattle.plot.specs.Fits.{Fits, InRange}
 use Rattle.plot.specs.Limits.{Sized}
 
-module _ (rows columns : ℕ) (hs : List ℤ) where
-  pub sized-1 : isSide rows && isSide columns ≡ false → Sized rows columns hs 1
+module _ (pl : Plot) where
+  pub sized-1 : isSide pl.rows && isSide pl.columns ≡ false → Sized pl 1
   sized-1 h =
       record { refuses = λ _ rest. row-holds _ _ (ap not h); passes = λ e. absurd (omega arith); fits = λ e. absurd (omega arith) }
 
-  pub sized-2 : isSide rows && isSide columns ≡ true → (length hs ≡ rows * columns → ⊥) → Sized rows columns hs 2
+  pub sized-2 : isSide pl.rows && isSide pl.columns ≡ true → (length pl.heights ≡ posts pl → ⊥) → Sized pl 2
   sized-2 h k =
       record {
         refuses = λ _ rest. row-passed _ _ (ap not h) ∙ row-holds _ _ (ap not (ne-eqb _ _ k));
@@ -31,20 +31,20 @@ module _ (rows columns : ℕ) (hs : List ℤ) where
         fits = λ e. absurd (omega arith);
       }
 
-  pub sized-0 : isSide rows && isSide columns ≡ true → length hs ≡ rows * columns → Sized rows columns hs 0
+  pub sized-0 : isSide pl.rows && isSide pl.columns ≡ true → length pl.heights ≡ posts pl → Sized pl 0
   sized-0 h k =
-      let r = and-left (isSide rows) (isSide columns) h in
-      let c = and-right (isSide rows) (isSide columns) h in
+      let r = and-left (isSide pl.rows) (isSide pl.columns) h in
+      let c = and-right (isSide pl.rows) (isSide pl.columns) h in
       record {
         refuses = λ n. absurd (n refl);
         passes = λ _ rest. row-passed _ _ (ap not h) ∙ row-passed _ _ (ap not (eq-eqb _ _ k));
         fits =
             λ _.
             record {
-              rowsLow = leb-true _ _ (and-left (leb 2 rows) (leb rows 120) r);
-              rowsHigh = leb-true _ _ (and-right (leb 2 rows) (leb rows 120) r);
-              columnsLow = leb-true _ _ (and-left (leb 2 columns) (leb columns 120) c);
-              columnsHigh = leb-true _ _ (and-right (leb 2 columns) (leb columns 120) c);
+              rowsLow = leb-true _ _ (and-left (leb 2 pl.rows) (leb pl.rows 120) r);
+              rowsHigh = leb-true _ _ (and-right (leb 2 pl.rows) (leb pl.rows 120) r);
+              columnsLow = leb-true _ _ (and-left (leb 2 pl.columns) (leb pl.columns 120) c);
+              columnsHigh = leb-true _ _ (and-right (leb 2 pl.columns) (leb pl.columns 120) c);
               size = k;
             };
       }
@@ -71,5 +71,5 @@ pub in-range : (hs : List ℤ) → verdict (row4 isHeight hs ∷ []) .code ≡ 0
 in-range hs h = all-at isHeight hs (pos 0) refl (ranged-all isHeight hs (accepted-clear (row4 isHeight hs ∷ []) tt h .0))
 
 -- what a call takes for a plot fits
-pub plotted-fits : (rows columns : ℕ) (hs : List ℤ) → Plotted rows columns hs → Fits rows columns hs
-plotted-fits rows columns hs p = sized-0 rows columns hs (rw (p .rowsFit, p .columnsFit)) (p .size) .fits refl
+pub plotted-fits : (pl : Plot) → Plotted pl → Fits pl
+plotted-fits pl p = sized-0 pl (rw (p .rowsFit, p .columnsFit)) (p .size) .fits refl

@@ -5,19 +5,19 @@ use mathlib.Core.Bool.{true}
 use mathlib.Core.List.{List}
 use lib.IntN.{ℤ}
 use lib.ListN.{length}
-use Rattle.surface.specs.Plot.{isHeight, height}
+use Rattle.surface.specs.Plot.{Plot, posts, isHeight, height}
 
-pub record Fits (rows columns : ℕ) (hs : List ℤ) : Type 0 where
-  pub rowsLow : 2 ≤ rows
-  pub rowsHigh : rows ≤ 120
-  pub columnsLow : 2 ≤ columns
-  pub columnsHigh : columns ≤ 120
-  pub size : length hs ≡ rows * columns
+pub record Fits (pl : Plot) : Type 0 where
+  pub rowsLow : 2 ≤ pl.rows
+  pub rowsHigh : pl.rows ≤ 120
+  pub columnsLow : 2 ≤ pl.columns
+  pub columnsHigh : pl.columns ≤ 120
+  pub size : length pl.heights ≡ posts pl
 
 -- every height is in range
 abbrev pub InRange : List ℤ → Type 0
 InRange hs = (p : ℕ) → isHeight (height hs p) ≡ true
 
-pub record Levelled (rows columns : ℕ) (hs : List ℤ) : Type 0 where
-  pub fits : Fits rows columns hs
-  pub inRange : InRange hs
+pub record Levelled (pl : Plot) : Type 0 where
+  pub fits : Fits pl
+  pub inRange : InRange pl.heights

@@ -3,18 +3,18 @@ use Prim.Native.Nat.{ℕ, _+_, _-_}
 use mathlib.Core.Bool.{Bool, true, cond, not, _&&_}
 use mathlib.Core.List.{List, [], _∷_}
 use lib.IntN.{ℤ}
-use Rattle.surface.specs.Plot.{below, reversed}
+use Rattle.surface.specs.Plot.{Plot, belowBy, reversed}
 use Rattle.surface.specs.Edges.{Place, place}
 use Rattle.surface.specs.Lines.{nextDown, nextUp}
 use Rattle.plot.specs.declared.border.Borders.{Borders}
 use Rattle.plot.specs.declared.sign.Corners.{Corners}
 
 abbrev pub toward : List ℤ → Bool → ℕ → ℕ → Bool
-toward hs up = cond up (reversed (below hs)) (below hs)
+toward hs up = cond up (reversed (belowBy hs)) (belowBy hs)
 
 -- next down and next up as one function of the direction
-abbrev pub nextBy : Bool → ℕ → ℕ → List ℤ → ℕ → ℕ
-nextBy up rows columns hs p = cond up (nextUp rows columns hs p) (nextDown rows columns hs p)
+abbrev pub nextBy : Bool → Plot → ℕ → ℕ
+nextBy up pl p = cond up (nextUp pl p) (nextDown pl p)
 
 module _ (lower : ℕ → ℕ → Bool) where
   -- the lower of two

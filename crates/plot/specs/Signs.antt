@@ -4,8 +4,9 @@ use mathlib.Core.Path.{_≡_}
 use mathlib.Core.Bool.{Bool, true, false, cond, not, _&&_, _||_}
 use mathlib.Core.List.{List}
 use lib.IntN.{ℤ}
-use Rattle.surface.specs.Plot.{below}
-use Rattle.surface.specs.Edges.{top, bottom, first, last, isBorder, throughLowest}
+use Rattle.surface.specs.Marks.{fallsIn}
+use Rattle.surface.specs.Plot.{Plot, posts}
+use Rattle.surface.specs.Edges.{top, bottom, first, last, isBorder}
 use Rattle.surface.proofs.Signs as surface
 use Rattle.plot.specs.Fits.{Fits}
 use Rattle.plot.specs.declared.border.Borders.{Borders}
@@ -77,11 +78,11 @@ abbrev pub cornersBy : Bool → Bool → Bool → Bool → Corners
 cornersBy nw ne sw se = record { ne = not ne; se = se; sw = not sw; nw = nw }
 
 -- p is on no border, and these four tell whether the diagonals round it fall
-pub record Inside (rows columns : ℕ) (hs : List ℤ) (p : ℕ) (nw ne sw se : Bool) : Type 0 where
-  pub fits : Fits rows columns hs
-  pub post : p < rows * columns
-  pub border : isBorder rows columns p ≡ false
-  pub nwFalls : nw ≡ throughLowest (below hs) columns (p - columns - 1)
-  pub neFalls : ne ≡ throughLowest (below hs) columns (p - columns)
-  pub swFalls : sw ≡ throughLowest (below hs) columns (p - 1)
-  pub seFalls : se ≡ throughLowest (below hs) columns p
+pub record Inside (pl : Plot) (p : ℕ) (nw ne sw se : Bool) : Type 0 where
+  pub fits : Fits pl
+  pub post : p < posts pl
+  pub border : isBorder pl.rows pl.columns p ≡ false
+  pub nwFalls : nw ≡ fallsIn pl (p - pl.columns - 1)
+  pub neFalls : ne ≡ fallsIn pl (p - pl.columns)
+  pub swFalls : sw ≡ fallsIn pl (p - 1)
+  pub seFalls : se ≡ fallsIn pl p

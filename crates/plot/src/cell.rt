@@ -3,7 +3,7 @@ ghost use mathlib.Core.Path.{_≡_};
 ghost use Prim.Native.Nat.{_+_, _<_, _≤_};
 ghost use lib.Signed.{ltZ};
 ghost use lib.ListN.{length};
-ghost use Rattle.surface.specs.Plot.{height, below};
+ghost use Rattle.surface.specs.Plot.{belowBy, height};
 ghost use Rattle.surface.specs.Edges.{throughLowest};
 
 // The height of p is less than that of q.
@@ -18,7 +18,7 @@ pub fn less(heights: &[i32], p: usize, q: usize) -> bool
 // lower, so the north-western post need only not be higher than the others, and the south-eastern one has to be lower.
 pub(crate) fn falls(heights: &[i32], columns: usize, a: usize) -> bool
     requires { ⌜ (2 ≤ columns) × (a + columns + 1 < length (now heights)) × (length (now heights) ≤ 14400) ⌝ }
-    ensures { λ r. ⌜ r ≡ throughLowest (below (now (heights .entry))) columns a ⌝ }
+    ensures { λ r. ⌜ r ≡ throughLowest (belowBy (now (heights .entry))) columns a ⌝ }
 {
     let nw = heights[a];
     let ne = heights[a + 1];

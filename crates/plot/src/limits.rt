@@ -9,7 +9,7 @@ ghost use Rattle.surface.specs.Lists.{all, firstNot};
 ghost use Rattle.surface.specs.Refusals.{verdict, row4};
 ghost use Rattle.surface.specs.Calls.{answer};
 ghost use Rattle.plot.specs.Limits.{Sized};
-ghost use Rattle.surface.specs.Plot.{isSide, isHeight};
+ghost use Rattle.surface.specs.Plot.{plot, isSide, isHeight};
 
 // Whether a plot may have these sides.
 pub fn is_plot(rows: u32, columns: u32) -> bool
@@ -54,7 +54,7 @@ fn all_in(heights: &[i32]) -> bool
 
 // Rows 1 and 2 of the table: the number of the first that holds, 0 where neither does.
 pub fn sized(rows: u32, columns: u32, heights: &[i32]) -> u32
-    ensures { λ r. ⌜ Sized rows columns (now (heights .entry)) r ⌝ }
+    ensures { λ r. ⌜ Sized (plot rows columns (now (heights .entry))) r ⌝ }
 {
     if !is_plot(rows, columns) {
         return 1;

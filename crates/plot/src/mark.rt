@@ -3,6 +3,7 @@ use crate::sign;
 use crate::sign::Signs;
 ghost use mathlib.Core.Path.{_≡_};
 ghost use Prim.Native.Nat.{_+_, _*_, _≤_, _<_};
+ghost use Rattle.surface.specs.Plot.{plot};
 ghost use Rattle.surface.specs.Marks.{markAt};
 ghost use Rattle.surface.proofs.Runs.{markBy};
 ghost use Rattle.surface.proofs.Signs.{rise, markOfSigns};
@@ -43,8 +44,8 @@ fn mark_of(g: Signs) -> u8
 
 // The mark of any post.
 pub fn mark_at(heights: &[i32], rows: usize, columns: usize, p: usize) -> u8
-    requires { ⌜ Fits rows columns (now heights) × (p < rows * columns) ⌝ }
-    ensures { λ r. ⌜ r ≡ markAt rows columns (now (heights .entry)) p ⌝ }
+    requires { ⌜ Fits (plot rows columns (now heights)) × (p < rows * columns) ⌝ }
+    ensures { λ r. ⌜ r ≡ markAt (plot rows columns (now (heights .entry))) p ⌝ }
 {
     mark_of(sign::signs_at(heights, rows, columns, p))
 }
@@ -60,8 +61,8 @@ pub fn mark_inside(
     sw: bool,
     se: bool,
 ) -> u8
-    requires { ⌜ Inside rows columns (now heights) p nw ne sw se ⌝ }
-    ensures { λ r. ⌜ r ≡ markAt rows columns (now (heights .entry)) p ⌝ }
+    requires { ⌜ Inside (plot rows columns (now heights)) p nw ne sw se ⌝ }
+    ensures { λ r. ⌜ r ≡ markAt (plot rows columns (now (heights .entry))) p ⌝ }
 {
     mark_of(sign::signs_inside(heights, columns, p, nw, ne, sw, se))
 }

@@ -8,14 +8,15 @@ use crate::key;
 ghost use mathlib.Core.Path.{_≡_};
 ghost use mathlib.Core.Bool.{true, false};
 ghost use Prim.Native.Nat.{_*_, _<_};
+ghost use Rattle.surface.specs.Plot.{plot};
 ghost use Rattle.surface.specs.Edges.{isBorder};
 ghost use Rattle.plot.specs.Fits.{Levelled};
 ghost use Rattle.plot.specs.Scan.{nextBy};
 
 // Next down from a post on no border, next up where `up`.
 pub fn next_inside(heights: &[i32], rows: usize, columns: usize, p: usize, up: bool) -> usize
-    requires { ⌜ Levelled rows columns (now heights) × (p < rows * columns) × (isBorder rows columns p ≡ false) ⌝ }
-    ensures { λ r. ⌜ r ≡ nextBy up rows columns (now (heights .entry)) p ⌝ }
+    requires { ⌜ Levelled (plot rows columns (now heights)) × (p < rows * columns) × (isBorder rows columns p ≡ false) ⌝ }
+    ensures { λ r. ⌜ r ≡ nextBy up (plot rows columns (now (heights .entry))) p ⌝ }
 {
     let block = key::block_inside(heights, columns, p);
     if up {
@@ -27,8 +28,8 @@ pub fn next_inside(heights: &[i32], rows: usize, columns: usize, p: usize, up: b
 
 // Next up from any post; used for those on a border.
 fn next_up_anywhere(heights: &[i32], rows: usize, columns: usize, p: usize) -> usize
-    requires { ⌜ Levelled rows columns (now heights) × (p < rows * columns) ⌝ }
-    ensures { λ r. ⌜ r ≡ nextBy true rows columns (now (heights .entry)) p ⌝ }
+    requires { ⌜ Levelled (plot rows columns (now heights)) × (p < rows * columns) ⌝ }
+    ensures { λ r. ⌜ r ≡ nextBy true (plot rows columns (now (heights .entry))) p ⌝ }
 {
     let at = border::borders_of(rows, columns, p);
     let block = key::block_at(heights, columns, p, at);
@@ -38,8 +39,8 @@ fn next_up_anywhere(heights: &[i32], rows: usize, columns: usize, p: usize) -> u
 
 // Next down from any post, next up where `up`. From a post on a border next down is the virtual pit.
 pub fn next_at(heights: &[i32], rows: usize, columns: usize, p: usize, up: bool) -> usize
-    requires { ⌜ Levelled rows columns (now heights) × (p < rows * columns) ⌝ }
-    ensures { λ r. ⌜ r ≡ nextBy up rows columns (now (heights .entry)) p ⌝ }
+    requires { ⌜ Levelled (plot rows columns (now heights)) × (p < rows * columns) ⌝ }
+    ensures { λ r. ⌜ r ≡ nextBy up (plot rows columns (now (heights .entry))) p ⌝ }
 {
     if !border::is_border(rows, columns, p) {
         return next_inside(heights, rows, columns, p, up);

@@ -7,7 +7,7 @@ ghost use mathlib.Core.Path.{_≡_};
 ghost use mathlib.Core.Bool.{true, cond};
 ghost use Prim.Native.Nat.{_+_, _-_, _*_, _≤_, _<_};
 ghost use lib.ListN.{length};
-ghost use Rattle.surface.specs.Plot.{virtualPit};
+ghost use Rattle.surface.specs.Plot.{plot, virtualPit};
 ghost use Rattle.surface.specs.Edges.{members};
 ghost use Rattle.surface.specs.Marks.{ringOf};
 ghost use Rattle.plot.specs.Fits.{Fits};
@@ -86,8 +86,8 @@ fn ring_of(columns: usize, p: usize, at: Borders, with: Corners) -> Ring
 
 // The ring of any post.
 pub fn ring_at(heights: &[i32], rows: usize, columns: usize, p: usize) -> Ring
-    requires { ⌜ Fits rows columns (now heights) × (p < rows * columns) ⌝ }
-    ensures { λ r. ⌜ Held r (ringOf rows columns (now (heights .entry)) p) ⌝ }
+    requires { ⌜ Fits (plot rows columns (now heights)) × (p < rows * columns) ⌝ }
+    ensures { λ r. ⌜ Held r (ringOf (plot rows columns (now (heights .entry))) p) ⌝ }
 {
     let at = border::borders_of(rows, columns, p);
     let with = sign::corners_of(heights, rows, columns, p, at);

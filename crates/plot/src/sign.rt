@@ -5,7 +5,7 @@ use crate::side;
 ghost use mathlib.Core.Path.{_≡_};
 ghost use lib.ListN.{length};
 ghost use Prim.Native.Nat.{_+_, _*_, _≤_, _<_};
-ghost use Rattle.surface.specs.Plot.{below};
+ghost use Rattle.surface.specs.Plot.{plot, belowBy};
 ghost use Rattle.surface.specs.Edges.{throughLowest};
 ghost use Rattle.surface.proofs.Signs.{signs};
 ghost use Rattle.plot.specs.Fits.{Fits};
@@ -39,8 +39,8 @@ pub(crate) fn corners_of(
     p: usize,
     at: Borders,
 ) -> Corners
-    requires { ⌜ Fits rows columns (now heights) × (p < rows * columns) × (at ≡ bordersOf rows columns p) ⌝ }
-    ensures { λ r. ⌜ r ≡ cornersOf rows columns (throughLowest (below (now (heights .entry))) columns) p ⌝ }
+    requires { ⌜ Fits (plot rows columns (now heights)) × (p < rows * columns) × (at ≡ bordersOf rows columns p) ⌝ }
+    ensures { λ r. ⌜ r ≡ cornersOf rows columns (throughLowest (belowBy (now (heights .entry))) columns) p ⌝ }
 {
     let ne = !at.top & !at.last;
     let se = !at.last & !at.bottom;
@@ -57,7 +57,7 @@ pub(crate) fn corners_of(
 // The signs of p, which stands at these borders and is joined to these corners.
 fn signs_of(heights: &[i32], columns: usize, p: usize, at: Borders, with: Corners) -> Signs
     requires { ⌜ Room (length (now heights)) columns p at with ⌝ }
-    ensures { λ r. ⌜ r ≡ signsOf (λ q. below (now (heights .entry)) q p) columns p at with ⌝ }
+    ensures { λ r. ⌜ r ≡ signsOf (λ q. belowBy (now (heights .entry)) q p) columns p at with ⌝ }
 {
     let n = side::back(heights, p, columns, !at.top, true);
     let ne = side::back(heights, p, columns - 1, with.ne, n);
@@ -81,8 +81,8 @@ fn signs_of(heights: &[i32], columns: usize, p: usize, at: Borders, with: Corner
 
 // The signs of any post.
 pub(crate) fn signs_at(heights: &[i32], rows: usize, columns: usize, p: usize) -> Signs
-    requires { ⌜ Fits rows columns (now heights) × (p < rows * columns) ⌝ }
-    ensures { λ r. ⌜ asSigns r ≡ signs rows columns (throughLowest (below (now (heights .entry))) columns) (λ q. below (now (heights .entry)) q p) p ⌝ }
+    requires { ⌜ Fits (plot rows columns (now heights)) × (p < rows * columns) ⌝ }
+    ensures { λ r. ⌜ asSigns r ≡ signs rows columns (throughLowest (belowBy (now (heights .entry))) columns) (λ q. belowBy (now (heights .entry)) q p) p ⌝ }
 {
     let at = border::borders_of(rows, columns, p);
     let with = corners_of(heights, rows, columns, p, at);
@@ -100,7 +100,7 @@ pub(crate) fn signs_inside(
     se: bool,
 ) -> Signs
     requires { ⌜ (2 ≤ columns) × (columns + 1 ≤ p) × (p + columns + 1 < length (now heights)) × (length (now heights) ≤ 14400) ⌝ }
-    ensures { λ r. ⌜ r ≡ signsOf (λ q. below (now (heights .entry)) q p) columns p inside (cornersBy nw ne sw se) ⌝ }
+    ensures { λ r. ⌜ r ≡ signsOf (λ q. belowBy (now (heights .entry)) q p) columns p inside (cornersBy nw ne sw se) ⌝ }
 {
     let n = side::lower_before(heights, p, p - columns);
     let e = side::lower_after(heights, p, p + 1);

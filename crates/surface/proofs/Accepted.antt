@@ -10,7 +10,7 @@ use lib.Dec.{ltb, eqb}
 use lib.IntN.{ℤ}
 use lib.ListN.{length, getD}
 use Rattle.surface.specs.Lists.{all, firstNot}
-use Rattle.surface.specs.Plot.{isSide, isHeight}
+use Rattle.surface.specs.Plot.{Plot, posts, isSide, isHeight}
 use Rattle.surface.specs.Edges.{lowerRuns}
 use Rattle.surface.specs.Marks.{ringOf, markAt}
 use Rattle.surface.specs.SurveyFile.{statedCount, countFor, fileSize, isTenths, tenthsOf}
@@ -42,68 +42,68 @@ posts-low rows columns e =
     mul-le-mul {n₂ = 120} {m₂ = 120} (s .0) (s .1)
 
 -- heights that a call takes for a plot of these rows and columns
-pub record Plotted (rows columns : ℕ) (hs : List ℤ) : Type 0 where
-  pub rowsFit : isSide rows ≡ true
-  pub columnsFit : isSide columns ≡ true
-  pub size : length hs ≡ rows * columns
-  pub inRange : all isHeight hs ≡ true
+pub record Plotted (pl : Plot) : Type 0 where
+  pub rowsFit : isSide pl.rows ≡ true
+  pub columnsFit : isSide pl.columns ≡ true
+  pub size : length pl.heights ≡ posts pl
+  pub inRange : all isHeight pl.heights ≡ true
 
-module _ (rows columns : ℕ) (hs : List ℤ) where
-  plotted : not (isSide rows && isSide columns) ≡ false → not (eqb (length hs) (rows * columns)) ≡ false → ltb (firstNot isHeight hs) (length hs) ≡ false
-      → Plotted rows columns hs
+module _ (pl : Plot) where
+  plotted : not (isSide pl.rows && isSide pl.columns) ≡ false → not (eqb (length pl.heights) (posts pl)) ≡ false → ltb (firstNot isHeight pl.heights) (length pl.heights) ≡ false
+      → Plotted pl
   plotted a b c =
-      let sides = not-false (isSide rows && isSide columns) a in
+      let sides = not-false (isSide pl.rows && isSide pl.columns) a in
       record {
-        rowsFit = and-left (isSide rows) (isSide columns) sides;
-        columnsFit = and-right (isSide rows) (isSide columns) sides;
+        rowsFit = and-left (isSide pl.rows) (isSide pl.columns) sides;
+        columnsFit = and-right (isSide pl.rows) (isSide pl.columns) sides;
         size = equal _ _ b;
-        inRange = ranged-all isHeight hs c;
+        inRange = ranged-all isHeight pl.heights c;
       }
 
   -- a survey is accepted exactly of a plot and as many marks
-  pub survey-plotted : (marks : List ℕ) → surveyVerdict rows columns hs marks .code ≡ 0 → Plotted rows columns hs × (length marks ≡ rows * columns)
+  pub survey-plotted : (marks : List ℕ) → surveyVerdict pl marks .code ≡ 0 → Plotted pl × (length marks ≡ posts pl)
   unfolding surveyVerdict
   survey-plotted marks h = let c = accepted-clear _ tt h in (plotted (c .0) (c .1 .0) (c .1 .1 .1 .0), equal _ _ (c .1 .1 .0))
 
   -- a re-shoot is accepted of a plot, as many marks, one of its posts and a height
-  pub reshoot-plotted : (marks : List ℕ) (post : ℕ) (new : ℤ) → reshootVerdict rows columns hs marks post new .code ≡ 0
-      → Plotted rows columns hs × (length marks ≡ rows * columns) × (post < rows * columns) × (isHeight new ≡ true)
+  pub reshoot-plotted : (marks : List ℕ) (post : ℕ) (new : ℤ) → reshootVerdict pl marks post new .code ≡ 0
+      → Plotted pl × (length marks ≡ posts pl) × (post < posts pl) × (isHeight new ≡ true)
   unfolding reshootVerdict
   reshoot-plotted marks post new h =
       let c = accepted-clear _ tt h in (
         plotted (c .0) (c .1 .0) (c .1 .1 .1 .0),
         equal _ _ (c .1 .1 .0),
-        ltb-true post (rows * columns) (not-false _ (c .1 .1 .1 .1 .0)),
+        ltb-true post (posts pl) (not-false _ (c .1 .1 .1 .1 .0)),
         not-false (isHeight new) (c .1 .1 .1 .1 .1 .0),
       )
 
   -- a line is accepted of a post of the plot, one of its runs, and a list that has room
-  pub line-plotted : (lower : ℕ → ℕ → Bool) (entries : List ℕ) (post run : ℕ) (list : List ℕ) → lineVerdict rows columns hs lower entries post run list .code ≡ 0
-      → (post < rows * columns) × (run < length (lowerRuns lower (ringOf rows columns hs) post)) × (length entries ≤ length list)
+  pub line-plotted : (lower : ℕ → ℕ → Bool) (entries : List ℕ) (post run : ℕ) (list : List ℕ) → lineVerdict pl lower entries post run list .code ≡ 0
+      → (post < posts pl) × (run < length (lowerRuns lower (ringOf pl) post)) × (length entries ≤ length list)
   unfolding lineVerdict
   line-plotted lower entries post run list h =
       let c = accepted-clear _ tt h in (
-        ltb-true post (rows * columns) (not-false _ (c .1 .1 .1 .0)),
+        ltb-true post (posts pl) (not-false _ (c .1 .1 .1 .0)),
         ltb-true run _ (not-false _ (c .1 .1 .1 .1 .1 .0)),
         ltb-false (length list) (length entries) (c .1 .1 .1 .1 .1 .1 .0),
       )
 
-  module _ (p : Plotted rows columns hs) where
-    row1-passes : not (isSide rows && isSide columns) ≡ false
+  module _ (p : Plotted pl) where
+    row1-passes : not (isSide pl.rows && isSide pl.columns) ≡ false
     row1-passes = rw (p .rowsFit, p .columnsFit)
 
-    row4-passes : ltb (firstNot isHeight hs) (length hs) ≡ false
-    row4-passes = rw (all-firstNot isHeight hs (p .inRange)) (le-ltb (length hs) (length hs) (omega arith))
+    row4-passes : ltb (firstNot isHeight pl.heights) (length pl.heights) ≡ false
+    row4-passes = rw (all-firstNot isHeight pl.heights (p .inRange)) (le-ltb (length pl.heights) (length pl.heights) (omega arith))
 
-    pub plotted-survey : (marks : List ℕ) → length marks ≡ rows * columns → surveyVerdict rows columns hs marks ≡ record { code = 0; place = 0 }
+    pub plotted-survey : (marks : List ℕ) → length marks ≡ posts pl → surveyVerdict pl marks ≡ record { code = 0; place = 0 }
     unfolding surveyVerdict
     plotted-survey marks h = clear-accepted _ (row1-passes, (same _ _ (p .size), (same _ _ h, (row4-passes, tt))))
 
     -- a line of a saddle and one of its runs, into a list that has room
-    pub plotted-line : (lower : ℕ → ℕ → Bool) (entries : List ℕ) (post run : ℕ) (list : List ℕ) → post < rows * columns → 3 ≤ markAt rows columns hs post
-        → run < length (lowerRuns lower (ringOf rows columns hs) post)
+    pub plotted-line : (lower : ℕ → ℕ → Bool) (entries : List ℕ) (post run : ℕ) (list : List ℕ) → post < posts pl → 3 ≤ markAt pl post
+        → run < length (lowerRuns lower (ringOf pl) post)
         → length entries ≤ length list
-        → lineVerdict rows columns hs lower entries post run list ≡ record { code = 0; place = 0 }
+        → lineVerdict pl lower entries post run list ≡ record { code = 0; place = 0 }
     unfolding lineVerdict
     plotted-line lower entries post run list h m k r =
         clear-accepted
@@ -114,15 +114,15 @@ module _ (rows columns : ℕ) (hs : List ℤ) where
             (
               row4-passes,
               (
-                ap not (lt-ltb post (rows * columns) h),
-                (le-ltb (markAt rows columns hs post) 3 m, (ap not (lt-ltb run _ k), (le-ltb (length list) (length entries) r, tt))),
+                ap not (lt-ltb post (posts pl) h),
+                (le-ltb (markAt pl post) 3 m, (ap not (lt-ltb run _ k), (le-ltb (length list) (length entries) r, tt))),
               ),
             ),
           ),
         )
 
-    pub plotted-parts : (dales hills : List ℕ) → length dales ≡ rows * columns → length hills ≡ rows * columns
-        → partsVerdict rows columns hs dales hills ≡ record { code = 0; place = 0 }
+    pub plotted-parts : (dales hills : List ℕ) → length dales ≡ posts pl → length hills ≡ posts pl
+        → partsVerdict pl dales hills ≡ record { code = 0; place = 0 }
     unfolding partsVerdict
     plotted-parts dales hills h k =
         clear-accepted _ (row1-passes, (same _ _ (p .size), (rw (same _ _ h) (same _ _ k), (row4-passes, tt))))
@@ -189,14 +189,14 @@ module _ (file : List ℕ) (hs : List ℤ) where
       )
 
 -- what an accepted write was given
-pub record Writable (rows columns : ℕ) (hs : List ℤ) (file : List ℕ) : Type 0 where
-  pub sides : (isSide rows && isSide columns) ≡ true
-  pub heights : length hs ≡ rows * columns
-  pub room : length file ≡ fileSize rows columns
-  pub inRange : firstNot isHeight hs ≡ length hs
+pub record Writable (pl : Plot) (file : List ℕ) : Type 0 where
+  pub sides : (isSide pl.rows && isSide pl.columns) ≡ true
+  pub heights : length pl.heights ≡ posts pl
+  pub room : length file ≡ fileSize pl.rows pl.columns
+  pub inRange : firstNot isHeight pl.heights ≡ length pl.heights
 
-module _ (rows columns : ℕ) (hs : List ℤ) (file : List ℕ) where
-  pub write-accepted : writeVerdict rows columns hs file .code ≡ 0 → Writable rows columns hs file
+module _ (pl : Plot) (file : List ℕ) where
+  pub write-accepted : writeVerdict pl file .code ≡ 0 → Writable pl file
   unfolding writeVerdict
   write-accepted e =
       let c = accepted-clear _ tt e in
@@ -204,5 +204,5 @@ module _ (rows columns : ℕ) (hs : List ℤ) (file : List ℕ) where
         sides = not-false _ (c .0);
         heights = equal _ _ (c .1 .0);
         room = equal _ _ (c .1 .1 .0);
-        inRange = none isHeight hs (c .1 .1 .1 .0);
+        inRange = none isHeight pl.heights (c .1 .1 .1 .0);
       }

@@ -5,6 +5,7 @@ use mathlib.Core.List.{List}
 use borrow.Author.Tests.{ne-eqb}
 use lib.IntN.{ℤ}
 use lib.ListN.{length}
+use Rattle.surface.specs.Plot.{Plot}
 use Rattle.surface.specs.SurveyFile.{heightsIn, fileOf}
 use Rattle.surface.specs.Refusals.{readVerdict, writeVerdict}
 use Rattle.surface.specs.Calls.{readAnswer, readHeights, writeFile}
@@ -34,11 +35,11 @@ module _ (file : List ℕ) (hs : List ℤ) where
   unfolding readHeights
   read-filled e = rw (accepted-read file hs (read-accepted file hs e), read-accepted file hs e .room)
 
-module _ (rows columns : ℕ) (hs : List ℤ) (file : List ℕ) where
-  pub write-kept : (writeVerdict rows columns hs file .code ≡ 0 → ⊥) → writeFile rows columns hs file ≡ file
+module _ (pl : Plot) (file : List ℕ) where
+  pub write-kept : (writeVerdict pl file .code ≡ 0 → ⊥) → writeFile pl file ≡ file
   unfolding writeFile
-  write-kept n = rw (ne-eqb (writeVerdict rows columns hs file .code) 0 n)
+  write-kept n = rw (ne-eqb (writeVerdict pl file .code) 0 n)
 
-  pub write-filled : writeVerdict rows columns hs file .code ≡ 0 → writeFile rows columns hs file ≡ fileOf rows columns hs
+  pub write-filled : writeVerdict pl file .code ≡ 0 → writeFile pl file ≡ fileOf pl
   unfolding writeFile
   write-filled e = rw e

@@ -10,7 +10,7 @@ use lib.IntN.{ℤ, pos}
 use lib.ListN.{getD, set}
 use lib.Seq.{getD-set-other}
 use borrow.Author.Tests.{eqb-false}
-use Rattle.surface.specs.Plot.{height, virtualPit, below}
+use Rattle.surface.specs.Plot.{belowBy, Plot, posts, over, reshot, height, virtualPit, below}
 use Rattle.surface.specs.Edges.{top, bottom, first, last, Corner, nw, ne, sw, se, corner, throughLowest, places, ring}
 use Rattle.surface.specs.Marks.{mark, ringOf, markAt, touches}
 use Rattle.surface.proofs.Grid.{Sides}
@@ -105,8 +105,8 @@ module _ {rows columns : ℕ} (s : Sides rows columns) where
   mark-lowest-local lower lower′ p h same = mark-local lower lower′ _ _ p h same (diagonal-local lower lower′ p same)
 
 -- document 01's order reads the heights of the two posts; the virtual pit has none
-below-agree : (hs hs′ : List ℤ) (u v : ℕ) → (eqb u virtualPit ≡ false → height hs u ≡ height hs′ u) → (eqb v virtualPit ≡ false → height hs v ≡ height hs′ v) → below hs u v ≡ below hs′ u v
-unfolding below
+below-agree : (hs hs′ : List ℤ) (u v : ℕ) → (eqb u virtualPit ≡ false → height hs u ≡ height hs′ u) → (eqb v virtualPit ≡ false → height hs v ≡ height hs′ v) → belowBy hs u v ≡ belowBy hs′ u v
+unfolding belowBy
 below-agree hs hs′ u v hu hv =
     either (eqb v virtualPit) (λ ev. cc)
     (λ ev. either (eqb u virtualPit) (λ eu. cc) (λ eu. cc (hu eu, hv ev)))
@@ -115,19 +115,19 @@ below-agree hs hs′ u v hu hv =
 abbrev pub SameBut : ℕ → List ℤ → List ℤ → Type 0
 SameBut z hs hs′ = (q : ℕ) → q ≢ z → getD hs q (pos 0) ≡ getD hs′ q (pos 0)
 
-module _ {rows columns : ℕ} (s : Sides rows columns) (z : ℕ) (hs hs′ : List ℤ) (same : SameBut z hs hs′) (p : ℕ) (h : p < rows * columns) (apart : touches columns z p ≡ false) where
-  block-height : (u : ℕ) → Block rows columns p u → eqb u virtualPit ≡ false → height hs u ≡ height hs′ u
-  block-height u (aPost k t) e = same u (λ w. true≢false (sym t ∙ ap (touches columns p) w ∙ touches-sym columns p z ∙ apart))
+module _ (pl : Plot) (s : Sides pl.rows pl.columns) (z : ℕ) (hs′ : List ℤ) (same : SameBut z pl.heights hs′) (p : ℕ) (h : p < posts pl) (apart : touches pl.columns z p ≡ false) where
+  block-height : (u : ℕ) → Block pl.rows pl.columns p u → eqb u virtualPit ≡ false → height pl.heights u ≡ height hs′ u
+  block-height u (aPost k t) e = same u (λ w. true≢false (sym t ∙ ap (touches pl.columns p) w ∙ touches-sym pl.columns p z ∙ apart))
   block-height u (thePit w) e = absurd (eqb-false u virtualPit e w)
 
-  below-local : AgreeRound rows columns (below hs) (below hs′) p
-  below-local u v bu bv = below-agree hs hs′ u v (block-height u bu) (block-height v bv)
+  below-local : AgreeRound pl.rows pl.columns (below pl) (below (over pl hs′)) p
+  below-local u v bu bv = below-agree pl.heights hs′ u v (block-height u bu) (block-height v bv)
 
   -- one height leaves every mark outside the posts that touch it
-  pub markAt-local : markAt rows columns hs p ≡ markAt rows columns hs′ p
+  pub markAt-local : markAt pl p ≡ markAt (over pl hs′) p
   unfolding markAt ringOf
-  markAt-local = mark-lowest-local s (below hs) (below hs′) p h below-local
+  markAt-local = mark-lowest-local s (below pl) (below (over pl hs′)) p h below-local
 
 -- a new height at z
-pub markAt-set : {rows columns : ℕ} (s : Sides rows columns) (z : ℕ) (hs : List ℤ) (new : ℤ) (p : ℕ) → p < rows * columns → touches columns z p ≡ false → markAt rows columns (set hs z new) p ≡ markAt rows columns hs p
-markAt-set s z hs new p h apart = markAt-local s z (set hs z new) hs (λ q w. getD-set-other hs z q new (pos 0) w) p h apart
+pub markAt-set : (pl : Plot) (s : Sides pl.rows pl.columns) (z : ℕ) (new : ℤ) (p : ℕ) → p < posts pl → touches pl.columns z p ≡ false → markAt (reshot pl z new) p ≡ markAt pl p
+markAt-set pl s z new p h apart = markAt-local (reshot pl z new) s z pl.heights (λ q w. getD-set-other pl.heights z q new (pos 0) w) p h apart

@@ -11,7 +11,7 @@ use lib.IntN.{ℤ, pos, negsuc}
 use lib.Signed.{ltZ}
 use borrow.Author.Tests.{ltb-true, ltb-false, lt-ltb, le-ltb, eqb-true, eq-eqb, ne-eqb}
 use Rattle.surface.specs.Lists.{one}
-use Rattle.surface.specs.Plot.{height, virtualPit, below, reversed}
+use Rattle.surface.specs.Plot.{height, virtualPit, belowBy, reversed}
 use Rattle.surface.proofs.Sum.{sum, sum-const, sum-le, sum-lt}
 
 pub record StrictTotal (lower : ℕ → ℕ → Bool) : Type 0 where
@@ -113,31 +113,31 @@ module _ (hs : List ℤ) where
 
   -- between posts the order is by height, then by number
   pub below-lex : (p q : ℕ) → (p ≡ virtualPit → ⊥) → (q ≡ virtualPit → ⊥)
-      → below hs p q ≡ ltZ (height hs p) (height hs q) || (not (ltZ (height hs q) (height hs p)) && ltb p q)
-  unfolding below
+      → belowBy hs p q ≡ ltZ (height hs p) (height hs q) || (not (ltZ (height hs q) (height hs p)) && ltb p q)
+  unfolding belowBy
   below-lex p q h k = rw (ne-eqb p virtualPit h, ne-eqb q virtualPit k)
 
   -- the virtual pit is below every post
-  pub pit-below : (q : ℕ) → (q ≡ virtualPit → ⊥) → below hs virtualPit q ≡ true
-  unfolding below
+  pub pit-below : (q : ℕ) → (q ≡ virtualPit → ⊥) → belowBy hs virtualPit q ≡ true
+  unfolding belowBy
   pit-below q k = rw (ne-eqb q virtualPit k, eq-eqb virtualPit virtualPit refl)
 
-  pub not-below-pit : (p : ℕ) → below hs p virtualPit ≡ false
-  unfolding below
+  pub not-below-pit : (p : ℕ) → belowBy hs p virtualPit ≡ false
+  unfolding belowBy
   not-below-pit p = rw (eq-eqb virtualPit virtualPit refl)
 
-  pub below-strict : StrictTotal (below hs)
-  unfolding below lex
+  pub below-strict : StrictTotal (belowBy hs)
+  unfolding belowBy lex
   below-strict = record { irrefl = irr; other = oth; trans = tra }
     where
-      irr : (p : ℕ) → below hs p p ≡ false
+      irr : (p : ℕ) → belowBy hs p p ≡ false
       irr p = go (eqb p virtualPit)
         where
           go : (t : Bool) → not t && (t || lex p p) ≡ false
           go true = refl
           go false = lex-irrefl p
 
-      oth : (p q : ℕ) → (p ≡ q → ⊥) → below hs q p ≡ not (below hs p q)
+      oth : (p q : ℕ) → (p ≡ q → ⊥) → belowBy hs q p ≡ not (belowBy hs p q)
       oth p q h = go (eqb p virtualPit) (eqb q virtualPit) refl refl
         where
           go : (a b : Bool) → eqb p virtualPit ≡ a → eqb q virtualPit ≡ b → not a && (b || lex q p) ≡ not (not b && (a || lex p q))
@@ -146,7 +146,7 @@ module _ (hs : List ℤ) where
           go false true e f = refl
           go false false e f = lex-other p q h
 
-      tra : (p q r : ℕ) → below hs p q ≡ true → below hs q r ≡ true → below hs p r ≡ true
+      tra : (p q r : ℕ) → belowBy hs p q ≡ true → belowBy hs q r ≡ true → belowBy hs p r ≡ true
       tra p q r h k = go (eqb p virtualPit) (eqb q virtualPit) (eqb r virtualPit) h k
         where
           go : (a b c : Bool) → not b && (a || lex p q) ≡ true → not c && (b || lex q r) ≡ true → not c && (a || lex p r) ≡ true

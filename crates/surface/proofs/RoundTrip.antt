@@ -8,7 +8,7 @@ use lib.IntN.{ℤ, pos, _*ℤ_}
 use lib.ListN.{length, getD, length-map, List·getD-map}
 use lib.Seq.{ext-getD}
 use Rattle.surface.specs.Lists.{firstNot}
-use Rattle.surface.specs.Plot.{isHeight}
+use Rattle.surface.specs.Plot.{Plot, posts, isHeight}
 use Rattle.surface.specs.SurveyFile.{wordAt, statedCount, countFor, fileSize, signed, bytesOf, isTenths, tenthsOf, rounded, heightsIn, filedHeights, fileOf}
 use Rattle.surface.specs.Refusals.{readVerdict}
 use Rattle.surface.specs.Calls.{readAnswer, readHeights, writeAnswer, writeFile}
@@ -22,12 +22,12 @@ map-rounded [] = refl
 map-rounded (z ∷ zs) = rw (rounded-tenfold z, map-rounded zs)
 
 -- the file of an accepted write
-module _ (rows columns : ℕ) (hs : List ℤ) (file : List ℕ) (w : Writable rows columns hs file) where
+module _ (pl : Plot) (file : List ℕ) (w : Writable pl file) where
   head : List ℕ
-  head = 1 ∷ bytesOf (countFor rows columns) ++ rows ∷ columns ∷ []
+  head = 1 ∷ bytesOf (countFor pl.rows pl.columns) ++ pl.rows ∷ pl.columns ∷ []
 
   -- a written file is its seven first bytes and the heights
-  parts : fileOf rows columns hs ≡ head ++ filedHeights hs
+  parts : fileOf pl ≡ head ++ filedHeights pl.heights
   unfolding fileOf head bytesOf
   parts = refl
 
@@ -35,46 +35,46 @@ module _ (rows columns : ℕ) (hs : List ℤ) (file : List ℕ) (w : Writable ro
   unfolding head bytesOf
   length-head = refl
 
-  tenth : (i : ℕ) → i < length hs → signed (wordAt (fileOf rows columns hs) (7 + 4 * i)) ≡ getD hs i (pos 0) *ℤ pos 10
+  tenth : (i : ℕ) → i < length pl.heights → signed (wordAt (fileOf pl) (7 + 4 * i)) ≡ getD pl.heights i (pos 0) *ℤ pos 10
   tenth i h =
-      let e : isHeight (getD hs i (pos 0)) ≡ true = firstNot-all isHeight hs (pos 0) (w .inRange) i h in
+      let e : isHeight (getD pl.heights i (pos 0)) ≡ true = firstNot-all isHeight pl.heights (pos 0) (w .inRange) i h in
       rw
-      (parts, wordAt-skip head (filedHeights hs) (7 + 4 * i) (4 * i) (omega (arith, length-head)), wordAt-filed hs (pos 0) i h e)
-      (signed-unsigned (getD hs i (pos 0) *ℤ pos 10) (mag-tenfold (getD hs i (pos 0)) e))
+      (parts, wordAt-skip head (filedHeights pl.heights) (7 + 4 * i) (4 * i) (omega (arith, length-head)), wordAt-filed pl.heights (pos 0) i h e)
+      (signed-unsigned (getD pl.heights i (pos 0) *ℤ pos 10) (mag-tenfold (getD pl.heights i (pos 0)) e))
 
   -- the filed heights are ten times the heights
-  tenths : tenthsOf (fileOf rows columns hs) (length hs) ≡ map (λ z. z *ℤ pos 10) hs
+  tenths : tenthsOf (fileOf pl) (length pl.heights) ≡ map (λ z. z *ℤ pos 10) pl.heights
   tenths =
       ext-getD
       (pos 0)
       _
       _
-      (length-tenthsOf (fileOf rows columns hs) (length hs) ∙ sym (length-map hs (λ z. z *ℤ pos 10)))
+      (length-tenthsOf (fileOf pl) (length pl.heights) ∙ sym (length-map pl.heights (λ z. z *ℤ pos 10)))
       (λ i h.
-      let k : i < length hs = rw (length-tenthsOf (fileOf rows columns hs) (length hs)) at h in
-      getD-tenthsOf (fileOf rows columns hs) (length hs) i k ∙ tenth i k ∙ sym (List·getD-map (λ z. z *ℤ pos 10) hs i (pos 0)))
+      let k : i < length pl.heights = rw (length-tenthsOf (fileOf pl) (length pl.heights)) at h in
+      getD-tenthsOf (fileOf pl) (length pl.heights) i k ∙ tenth i k ∙ sym (List·getD-map (λ z. z *ℤ pos 10) pl.heights i (pos 0)))
 
-  stated : statedCount (fileOf rows columns hs) ≡ countFor rows columns
+  stated : statedCount (fileOf pl) ≡ countFor pl.rows pl.columns
   unfolding statedCount fileOf
   stated =
-      wordAt-skip (1 ∷ []) (bytesOf (countFor rows columns) ++ rows ∷ columns ∷ filedHeights hs) 1 0 refl
-      ∙ wordAt-bytesOf (countFor rows columns) (rows ∷ columns ∷ filedHeights hs) (omega (arith, posts-low rows columns (w .sides)))
+      wordAt-skip (1 ∷ []) (bytesOf (countFor pl.rows pl.columns) ++ pl.rows ∷ pl.columns ∷ filedHeights pl.heights) 1 0 refl
+      ∙ wordAt-bytesOf (countFor pl.rows pl.columns) (pl.rows ∷ pl.columns ∷ filedHeights pl.heights) (omega (arith, posts-low pl.rows pl.columns (w .sides)))
 
-  in-range : firstNot isTenths (tenthsOf (fileOf rows columns hs) (rows * columns)) ≡ rows * columns
-  in-range = rw (← w .heights, tenths) (firstNot-map isHeight isTenths (λ z. z *ℤ pos 10) isTenths-tenfold hs (w .inRange) ∙ length-map hs (λ z. z *ℤ pos 10))
+  in-range : firstNot isTenths (tenthsOf (fileOf pl) (posts pl)) ≡ posts pl
+  in-range = rw (← w .heights, tenths) (firstNot-map isHeight isTenths (λ z. z *ℤ pos 10) isTenths-tenfold pl.heights (w .inRange) ∙ length-map pl.heights (λ z. z *ℤ pos 10))
 
-  read-back : heightsIn (fileOf rows columns hs) (rows * columns) ≡ hs
+  read-back : heightsIn (fileOf pl) (posts pl) ≡ pl.heights
   unfolding heightsIn
-  read-back = rw (← w .heights, tenths) (map-rounded hs)
+  read-back = rw (← w .heights, tenths) (map-rounded pl.heights)
 
-  pub written-readable : (out : List ℤ) → length out ≡ rows * columns → Readable (fileOf rows columns hs) out
+  pub written-readable : (out : List ℤ) → length out ≡ posts pl → Readable (fileOf pl) out
   unfolding fileOf bytesOf
   written-readable out h =
       record {
         version = refl;
         sides = w .sides;
         stated = stated;
-        size = omega (arith, length-filedHeights hs, w .heights);
+        size = omega (arith, length-filedHeights pl.heights, w .heights);
         room = h;
         tenths = in-range;
       }
@@ -125,14 +125,14 @@ read-heights file out e =
 
 -- "A file we write reads back to the same millimetre heights": into any list of as many heights, with the same rows and columns.
 pub round-trip :
-    (rows columns : ℕ) (hs : List ℤ) (file : List ℕ) (out : List ℤ)
-    → writeAnswer rows columns hs file .code ≡ 0
-    → length out ≡ rows * columns
-    → (readAnswer (writeFile rows columns hs file) out ≡ record { code = 0; place = 0; rows = rows; columns = columns })
-    × (readHeights (writeFile rows columns hs file) out ≡ hs)
+    (pl : Plot) (file : List ℕ) (out : List ℤ)
+    → writeAnswer pl file .code ≡ 0
+    → length out ≡ posts pl
+    → (readAnswer (writeFile pl file) out ≡ record { code = 0; place = 0; rows = pl.rows; columns = pl.columns })
+    × (readHeights (writeFile pl file) out ≡ pl.heights)
 unfolding writeAnswer fileOf bytesOf
-round-trip rows columns hs file out e h =
-    let w = write-accepted rows columns hs file e in
-    let r = accepted-read (fileOf rows columns hs) out (written-readable rows columns hs file w out h) in
-    rw (write-filled rows columns hs file e, read-served (fileOf rows columns hs) out (ap (λ v. v .code) r), read-filled (fileOf rows columns hs) out (ap (λ v. v .code) r), h)
-    (refl, read-back rows columns hs file w)
+round-trip pl file out e h =
+    let w = write-accepted pl file e in
+    let r = accepted-read (fileOf pl) out (written-readable pl file w out h) in
+    rw (write-filled pl file e, read-served (fileOf pl) out (ap (λ v. v .code) r), read-filled (fileOf pl) out (ap (λ v. v .code) r), h)
+    (refl, read-back pl file w)

@@ -1,7 +1,7 @@
 -- The starred bench plots, by computation.
 use mathlib.Core.Path.{refl}
 use Rattle.surface.specs.Lists.{listOf, filter, any, all, takeWhile, lastOr, count, total, firstNot}
-use Rattle.surface.specs.Plot.{virtualPit, below}
+use Rattle.surface.specs.Plot.{virtualPit, belowBy}
 use Rattle.surface.specs.Edges.{lowest, lowestOr, throughLowest, members, places, ring, runs, runsFrom}
 use Rattle.surface.specs.Marks.{markFor, mark, markAt, marksOf, ringOf, peaks, pits, saddles}
 use Rattle.surface.specs.Lines.{isEnd, next, walk, line, thalweg, ridge}
@@ -11,7 +11,7 @@ use Rattle.surface.specs.Calls.{surveyAnswer, surveyMarks, thalwegAnswer
 use Rattle.surface.specs.Bench.{Starred}
 
 pub starred : Starred
-unfolding listOf filter any all takeWhile lastOr count total firstNot virtualPit below lowest lowestOr throughLowest members places ring runs runsFrom markFor mark markAt marksOf ringOf peaks pits saddles isEnd next walk line thalweg ridge wordAt signed statedCount tenthsOf rounded heightsIn verdict surveyVerdict lineVerdict readVerdict surveyAnswer surveyMarks thalwegAnswer thalwegList ridgeAnswer ridgeList readAnswer readHeights
+unfolding listOf filter any all takeWhile lastOr count total firstNot virtualPit belowBy lowest lowestOr throughLowest members places ring runs runsFrom markFor mark markAt marksOf ringOf peaks pits saddles isEnd next walk line thalweg ridge wordAt signed statedCount tenthsOf rounded heightsIn verdict surveyVerdict lineVerdict readVerdict surveyAnswer surveyMarks thalwegAnswer thalwegList ridgeAnswer ridgeList readAnswer readHeights
 starred =
     record {
       flatMarks = refl;

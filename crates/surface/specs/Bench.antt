@@ -4,25 +4,26 @@ use mathlib.Core.Path.{_≡_}
 use mathlib.Core.List.{List, [], _∷_}
 use lib.IntN.{ℤ, pos, negsuc}
 use lib.ListN.{replicate, getD}
+use Rattle.surface.specs.Plot.{Plot, plot}
 use Rattle.surface.specs.Calls.{surveyAnswer, surveyMarks, thalwegAnswer, thalwegList, ridgeAnswer, ridgeList, readAnswer, readHeights}
 use Rattle.surface.specs.declared.Counts.{Counts}
 use Rattle.surface.specs.declared.Entries.{Entries}
 
 -- 0 0 / 0 0
-abbrev pub flat : List ℤ
-flat = replicate 4 (pos 0)
+abbrev pub flat : Plot
+flat = plot 2 2 (replicate 4 (pos 0))
 
 -- 5 0 / 0 5
-abbrev pub crossed : List ℤ
-crossed = pos 5 ∷ pos 0 ∷ pos 0 ∷ pos 5 ∷ []
+abbrev pub crossed : Plot
+crossed = plot 2 2 (pos 5 ∷ pos 0 ∷ pos 0 ∷ pos 5 ∷ [])
 
 -- 0 2 0 / 2 1 2 / 0 2 0
-abbrev pub star : List ℤ
-star = pos 0 ∷ pos 2 ∷ pos 0 ∷ pos 2 ∷ pos 1 ∷ pos 2 ∷ pos 0 ∷ pos 2 ∷ pos 0 ∷ []
+abbrev pub star : Plot
+star = plot 3 3 (pos 0 ∷ pos 2 ∷ pos 0 ∷ pos 2 ∷ pos 1 ∷ pos 2 ∷ pos 0 ∷ pos 2 ∷ pos 0 ∷ [])
 
 -- 1 1 1 / 1 0 1 / 1 1 1
-abbrev pub hollow : List ℤ
-hollow = pos 1 ∷ pos 1 ∷ pos 1 ∷ pos 1 ∷ pos 0 ∷ pos 1 ∷ pos 1 ∷ pos 1 ∷ pos 1 ∷ []
+abbrev pub hollow : Plot
+hollow = plot 3 3 (pos 1 ∷ pos 1 ∷ pos 1 ∷ pos 1 ∷ pos 0 ∷ pos 1 ∷ pos 1 ∷ pos 1 ∷ pos 1 ∷ [])
 
 -- a 2 by 2 file of the tenths 4, 5, 15, -5
 abbrev pub tenths : List ℕ
@@ -55,36 +56,36 @@ refused code = record { code = code; place = 0; count = 0 }
 
 pub record Starred : Type 0 where
   -- flat 2 by 2: post 3 a peak, the rest ordinary; counts 1, 1, 0
-  pub flatMarks : surveyMarks 2 2 flat (marks 4) ≡ 0 ∷ 0 ∷ 0 ∷ 1 ∷ []
-  pub flatCounts : surveyAnswer 2 2 flat (marks 4) ≡ counted 1 1 0
+  pub flatMarks : surveyMarks flat (marks 4) ≡ 0 ∷ 0 ∷ 0 ∷ 1 ∷ []
+  pub flatCounts : surveyAnswer flat (marks 4) ≡ counted 1 1 0
   -- crossed: posts 0 and 3 peaks, post 2 a saddle of multiplicity 1; counts 2, 1, 1
-  pub crossedMarks : surveyMarks 2 2 crossed (marks 4) ≡ 1 ∷ 0 ∷ 3 ∷ 1 ∷ []
-  pub crossedCounts : surveyAnswer 2 2 crossed (marks 4) ≡ counted 2 1 1
+  pub crossedMarks : surveyMarks crossed (marks 4) ≡ 1 ∷ 0 ∷ 3 ∷ 1 ∷ []
+  pub crossedCounts : surveyAnswer crossed (marks 4) ≡ counted 2 1 1
   -- crossed, post 2, water line 0: 2, 1, 65535 in three entries; later entries keep their content
-  pub crossedLine : thalwegList 2 2 crossed 2 0 (entries 4) ≡ 2 ∷ 1 ∷ 65535 ∷ 7 ∷ []
-  pub crossedCount : thalwegAnswer 2 2 crossed 2 0 (entries 4) ≡ written 3
-  pub crossedExact : thalwegList 2 2 crossed 2 0 (entries 3) ≡ 2 ∷ 1 ∷ 65535 ∷ []
-  pub crossedExactCount : thalwegAnswer 2 2 crossed 2 0 (entries 3) ≡ written 3
+  pub crossedLine : thalwegList crossed 2 0 (entries 4) ≡ 2 ∷ 1 ∷ 65535 ∷ 7 ∷ []
+  pub crossedCount : thalwegAnswer crossed 2 0 (entries 4) ≡ written 3
+  pub crossedExact : thalwegList crossed 2 0 (entries 3) ≡ 2 ∷ 1 ∷ 65535 ∷ []
+  pub crossedExactCount : thalwegAnswer crossed 2 0 (entries 3) ≡ written 3
   -- a list of two: refusal 9
-  pub crossedShort : thalwegAnswer 2 2 crossed 2 0 (entries 2) ≡ refused 9
-  pub crossedShortList : thalwegList 2 2 crossed 2 0 (entries 2) ≡ entries 2
+  pub crossedShort : thalwegAnswer crossed 2 0 (entries 2) ≡ refused 9
+  pub crossedShortList : thalwegList crossed 2 0 (entries 2) ≡ entries 2
   -- star: post 4 has mark 5
-  pub starMark : getD (surveyMarks 3 3 star (marks 9)) 4 9 ≡ 5
+  pub starMark : getD (surveyMarks star (marks 9)) 4 9 ≡ 5
   -- its crest line 0: 4, 1 in two entries
-  pub starLine : ridgeList 3 3 star 4 0 (entries 3) ≡ 4 ∷ 1 ∷ 7 ∷ []
-  pub starCount : ridgeAnswer 3 3 star 4 0 (entries 3) ≡ written 2
-  pub starExact : ridgeList 3 3 star 4 0 (entries 2) ≡ 4 ∷ 1 ∷ []
-  pub starExactCount : ridgeAnswer 3 3 star 4 0 (entries 2) ≡ written 2
+  pub starLine : ridgeList star 4 0 (entries 3) ≡ 4 ∷ 1 ∷ 7 ∷ []
+  pub starCount : ridgeAnswer star 4 0 (entries 3) ≡ written 2
+  pub starExact : ridgeList star 4 0 (entries 2) ≡ 4 ∷ 1 ∷ []
+  pub starExactCount : ridgeAnswer star 4 0 (entries 2) ≡ written 2
   -- run 2 of the crossed saddle: refusal 8
-  pub crossedRun : thalwegAnswer 2 2 crossed 2 2 (entries 4) ≡ refused 8
-  pub crossedRunUp : ridgeAnswer 2 2 crossed 2 2 (entries 4) ≡ refused 8
-  pub crossedRunList : thalwegList 2 2 crossed 2 2 (entries 4) ≡ entries 4
-  pub crossedRunUpList : ridgeList 2 2 crossed 2 2 (entries 4) ≡ entries 4
+  pub crossedRun : thalwegAnswer crossed 2 2 (entries 4) ≡ refused 8
+  pub crossedRunUp : ridgeAnswer crossed 2 2 (entries 4) ≡ refused 8
+  pub crossedRunList : thalwegList crossed 2 2 (entries 4) ≡ entries 4
+  pub crossedRunUpList : ridgeList crossed 2 2 (entries 4) ≡ entries 4
   -- hollow: post 4 a pit, post 0 a saddle, post 8 a peak; counts 1, 2, 1
-  pub hollowPit : getD (surveyMarks 3 3 hollow (marks 9)) 4 9 ≡ 2
-  pub hollowSaddle : getD (surveyMarks 3 3 hollow (marks 9)) 0 9 ≡ 3
-  pub hollowPeak : getD (surveyMarks 3 3 hollow (marks 9)) 8 9 ≡ 1
-  pub hollowCounts : surveyAnswer 3 3 hollow (marks 9) ≡ counted 1 2 1
+  pub hollowPit : getD (surveyMarks hollow (marks 9)) 4 9 ≡ 2
+  pub hollowSaddle : getD (surveyMarks hollow (marks 9)) 0 9 ≡ 3
+  pub hollowPeak : getD (surveyMarks hollow (marks 9)) 8 9 ≡ 1
+  pub hollowCounts : surveyAnswer hollow (marks 9) ≡ counted 1 2 1
   -- tenths 4, 5, 15, -5 read as 0, 1, 2, -1
   pub roundings : readHeights tenths (replicate 4 (pos 7)) ≡ pos 0 ∷ pos 1 ∷ pos 2 ∷ negsuc 0 ∷ []
   pub roundingsRead : readAnswer tenths (replicate 4 (pos 7)) ≡ record { code = 0; place = 0; rows = 2; columns = 2 }

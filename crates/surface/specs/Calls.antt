@@ -5,7 +5,7 @@ use Prim.Native.Nat.{ℕ, _+_, _*_}
 use mathlib.Core.List.{List, _++_}
 use lib.IntN.{ℤ}
 use lib.ListN.{length, getD, set, drop}
-use Rattle.surface.specs.Plot.{below, reversed}
+use Rattle.surface.specs.Plot.{Plot, reshot, below, reversed}
 use Rattle.surface.specs.Marks.{marksOf, redrawn, peaks, pits, saddles}
 use Rattle.surface.specs.Lines.{nextDown, nextUp, thalweg, ridge, dalesOf, hillsOf}
 use Rattle.surface.specs.SurveyFile.{heightsIn, fileOf}
@@ -26,80 +26,80 @@ lineAnswer v entries = record { code = v .code; place = v .place; count = settle
 abbrev pub lineList : Verdict → List ℕ → List ℕ → List ℕ
 lineList v entries list = settled v (entries ++ drop (length entries) list) list
 
-module _ (rows columns : ℕ) (hs : List ℤ) where
+module _ (pl : Plot) where
   -- survey(rows, columns, heights, marks)
   unfoldable pub surveyMarks : List ℕ → List ℕ
-  surveyMarks marks = settled (surveyVerdict rows columns hs marks) (marksOf rows columns hs) marks
+  surveyMarks marks = settled (surveyVerdict pl marks) (marksOf pl) marks
 
   unfoldable pub surveyAnswer : List ℕ → Counts
   surveyAnswer marks =
-      let v = surveyVerdict rows columns hs marks in
+      let v = surveyVerdict pl marks in
       record {
         code = v .code;
         place = v .place;
-        peaks = settled v (peaks (marksOf rows columns hs)) 0;
-        pits = settled v (pits (marksOf rows columns hs)) 0;
-        saddles = settled v (saddles (marksOf rows columns hs)) 0;
+        peaks = settled v (peaks (marksOf pl)) 0;
+        pits = settled v (pits (marksOf pl)) 0;
+        saddles = settled v (saddles (marksOf pl)) 0;
       }
 
   -- reshoot(rows, columns, heights, marks, post, height)
   unfoldable pub reshootHeights : List ℕ → ℕ → ℤ → List ℤ
-  reshootHeights marks post new = settled (reshootVerdict rows columns hs marks post new) (set hs post new) hs
+  reshootHeights marks post new = settled (reshootVerdict pl marks post new) (set pl.heights post new) pl.heights
 
   unfoldable pub reshootMarks : List ℕ → ℕ → ℤ → List ℕ
   reshootMarks marks post new =
-      settled (reshootVerdict rows columns hs marks post new) (redrawn rows columns (set hs post new) marks post) marks
+      settled (reshootVerdict pl marks post new) (redrawn (reshot pl post new) marks post) marks
 
   unfoldable pub reshootAnswer : List ℕ → ℕ → ℤ → Answer
-  reshootAnswer marks post new = answer (reshootVerdict rows columns hs marks post new)
+  reshootAnswer marks post new = answer (reshootVerdict pl marks post new)
 
   -- next_down(rows, columns, heights, post), next_up(..)
   abbrev pub nextAnswer : (ℕ → ℕ) → ℕ → Next
   nextAnswer step post =
-      let v = nextVerdict rows columns hs post in
+      let v = nextVerdict pl post in
       record { code = v .code; place = v .place; post = settled v (step post) 0 }
 
   unfoldable pub nextDownAnswer : ℕ → Next
-  nextDownAnswer = nextAnswer (nextDown rows columns hs)
+  nextDownAnswer = nextAnswer (nextDown pl)
 
   unfoldable pub nextUpAnswer : ℕ → Next
-  nextUpAnswer = nextAnswer (nextUp rows columns hs)
+  nextUpAnswer = nextAnswer (nextUp pl)
 
   -- thalweg(rows, columns, heights, post, run, line), ridge(..)
   abbrev pub thalwegVerdict : ℕ → ℕ → List ℕ → Verdict
-  thalwegVerdict post run = lineVerdict rows columns hs (below hs) (thalweg rows columns hs post run) post run
+  thalwegVerdict post run = lineVerdict pl (below pl) (thalweg pl post run) post run
 
   abbrev pub ridgeVerdict : ℕ → ℕ → List ℕ → Verdict
-  ridgeVerdict post run = lineVerdict rows columns hs (reversed (below hs)) (ridge rows columns hs post run) post run
+  ridgeVerdict post run = lineVerdict pl (reversed (below pl)) (ridge pl post run) post run
 
   unfoldable pub thalwegAnswer : ℕ → ℕ → List ℕ → Entries
-  thalwegAnswer post run list = lineAnswer (thalwegVerdict post run list) (thalweg rows columns hs post run)
+  thalwegAnswer post run list = lineAnswer (thalwegVerdict post run list) (thalweg pl post run)
 
   unfoldable pub thalwegList : ℕ → ℕ → List ℕ → List ℕ
-  thalwegList post run list = lineList (thalwegVerdict post run list) (thalweg rows columns hs post run) list
+  thalwegList post run list = lineList (thalwegVerdict post run list) (thalweg pl post run) list
 
   unfoldable pub ridgeAnswer : ℕ → ℕ → List ℕ → Entries
-  ridgeAnswer post run list = lineAnswer (ridgeVerdict post run list) (ridge rows columns hs post run)
+  ridgeAnswer post run list = lineAnswer (ridgeVerdict post run list) (ridge pl post run)
 
   unfoldable pub ridgeList : ℕ → ℕ → List ℕ → List ℕ
-  ridgeList post run list = lineList (ridgeVerdict post run list) (ridge rows columns hs post run) list
+  ridgeList post run list = lineList (ridgeVerdict post run list) (ridge pl post run) list
 
   -- dales_and_hills(rows, columns, heights, dales, hills)
   unfoldable pub partsAnswer : List ℕ → List ℕ → Answer
-  partsAnswer dales hills = answer (partsVerdict rows columns hs dales hills)
+  partsAnswer dales hills = answer (partsVerdict pl dales hills)
 
   unfoldable pub partsDales : List ℕ → List ℕ → List ℕ
-  partsDales dales hills = settled (partsVerdict rows columns hs dales hills) (dalesOf rows columns hs) dales
+  partsDales dales hills = settled (partsVerdict pl dales hills) (dalesOf pl) dales
 
   unfoldable pub partsHills : List ℕ → List ℕ → List ℕ
-  partsHills dales hills = settled (partsVerdict rows columns hs dales hills) (hillsOf rows columns hs) hills
+  partsHills dales hills = settled (partsVerdict pl dales hills) (hillsOf pl) hills
 
   -- write_survey(rows, columns, heights, file)
   unfoldable pub writeAnswer : List ℕ → Answer
-  writeAnswer file = answer (writeVerdict rows columns hs file)
+  writeAnswer file = answer (writeVerdict pl file)
 
   unfoldable pub writeFile : List ℕ → List ℕ
-  writeFile file = settled (writeVerdict rows columns hs file) (fileOf rows columns hs) file
+  writeFile file = settled (writeVerdict pl file) (fileOf pl) file
 
 -- read_survey(file, heights)
 unfoldable pub readAnswer : List ℕ → List ℤ → Size

@@ -8,9 +8,9 @@ use lib.Dec.{eqb}
 use lib.IntN.{ℤ}
 use lib.ListN.{length, getD, take}
 use Rattle.surface.specs.Lists.{listOf, any, count, lastOr, one}
-use Rattle.surface.specs.Plot.{below, reversed, virtualPit}
+use Rattle.surface.specs.Plot.{Plot, posts, over, below, reversed, virtualPit}
 use Rattle.surface.specs.Edges.{Edge, throughLowest, lowerRuns, upperRuns}
-use Rattle.surface.specs.Marks.{ringOf, marksOf}
+use Rattle.surface.specs.Marks.{fallsIn, ringOf, marksOf}
 use Rattle.surface.specs.Lines.{fallsFrom, OnePiece}
 use Rattle.surface.specs.Calls.{surveyAnswer, surveyMarks, thalwegAnswer, thalwegList, ridgeAnswer, ridgeList, partsAnswer, partsDales, partsHills}
 use Rattle.surface.specs.Series.{Reshoot, Sheet, afterAll, Kept, plainAll}
@@ -25,16 +25,16 @@ pub record ExactlyOne (holds : ℕ → Type 0) : Type 0 where
   pub itHolds : holds it
   pub noOther : (w : ℕ) → holds w → w ≡ it
 
-module _ (rows columns : ℕ) (hs : List ℤ) where
+module _ (pl : Plot) where
   abbrev pub EdgeOf : ℕ → ℕ → Type 0
-  EdgeOf = Edge rows columns (throughLowest (below hs) columns)
+  EdgeOf = Edge pl.rows pl.columns (fallsIn pl)
 
   -- pits and peaks, told by their rings; the virtual pit is a pit
   abbrev pub IsPit : ℕ → Type 0
-  IsPit p = ((p < rows * columns) × (any (λ q. below hs q p) (ringOf rows columns hs p) ≡ false)) ⊎ (p ≡ virtualPit)
+  IsPit p = ((p < posts pl) × (any (λ q. below pl q p) (ringOf pl p) ≡ false)) ⊎ (p ≡ virtualPit)
 
   abbrev pub IsPeak : ℕ → Type 0
-  IsPeak p = (p < rows * columns) × (any (λ q. below hs p q) (ringOf rows columns hs p) ≡ false)
+  IsPeak p = (p < posts pl) × (any (λ q. below pl p q) (ringOf pl p) ≡ false)
 
   -- a line from `post`: each entry after it is lower (in the order given) than the one before, the last is an end, and there is at most one entry more
   -- than there are posts
@@ -43,75 +43,75 @@ module _ (rows columns : ℕ) (hs : List ℤ) where
     pub starts : entries ≡ post ∷ after
     pub falls : fallsFrom lower post after ≡ true
     pub ends : isEnd (lastOr post after)
-    pub fits : length entries ≤ rows * columns + 1
+    pub fits : length entries ≤ posts pl + 1
 
   -- the members of a dale and of a hill, by the filled lists; the virtual pit is a member of its own dale and of no hill
   abbrev pub InDale : List ℕ → ℕ → ℕ → Type 0
-  InDale dales w p = ((p < rows * columns) × (getD dales p 0 ≡ w)) ⊎ ((p ≡ virtualPit) × (w ≡ virtualPit))
+  InDale dales w p = ((p < posts pl) × (getD dales p 0 ≡ w)) ⊎ ((p ≡ virtualPit) × (w ≡ virtualPit))
 
   abbrev pub InHill : List ℕ → ℕ → ℕ → Type 0
-  InHill hills w p = (p < rows * columns) × (getD hills p 0 ≡ w)
+  InHill hills w p = (p < posts pl) × (getD hills p 0 ≡ w)
 
   -- what dales_and_hills leaves in lists of the right size
   pub record Parted (dales hills : List ℕ) : Type 0 where
-    pub accepted : partsAnswer rows columns hs dales hills .code ≡ 0
+    pub accepted : partsAnswer pl dales hills .code ≡ 0
     -- every post lies in exactly one dale and one hill
-    pub oneDale : (p : ℕ) → p < rows * columns → ExactlyOne (λ w. IsPit w × InDale (partsDales rows columns hs dales hills) w p)
-    pub oneHill : (p : ℕ) → p < rows * columns → ExactlyOne (λ w. IsPeak w × InHill (partsHills rows columns hs dales hills) w p)
+    pub oneDale : (p : ℕ) → p < posts pl → ExactlyOne (λ w. IsPit w × InDale (partsDales pl dales hills) w p)
+    pub oneHill : (p : ℕ) → p < posts pl → ExactlyOne (λ w. IsPeak w × InHill (partsHills pl dales hills) w p)
     -- the names in the dale list are exactly the pits, those in the hill list exactly the peaks
-    pub daleNames : (w : ℕ) → List·Memᴰ w (partsDales rows columns hs dales hills) ↔ IsPit w
-    pub hillNames : (w : ℕ) → List·Memᴰ w (partsHills rows columns hs dales hills) ↔ IsPeak w
+    pub daleNames : (w : ℕ) → List·Memᴰ w (partsDales pl dales hills) ↔ IsPit w
+    pub hillNames : (w : ℕ) → List·Memᴰ w (partsHills pl dales hills) ↔ IsPeak w
     -- dales number the pits, hills the peaks, as a survey counts them
-    pub daleNumber : (lent : List ℕ) → length lent ≡ rows * columns
-        → namesIn (rows * columns) (partsDales rows columns hs dales hills) ≡ surveyAnswer rows columns hs lent .pits
-    pub hillNumber : (lent : List ℕ) → length lent ≡ rows * columns
-        → namesIn (rows * columns) (partsHills rows columns hs dales hills) ≡ surveyAnswer rows columns hs lent .peaks
+    pub daleNumber : (lent : List ℕ) → length lent ≡ posts pl
+        → namesIn (posts pl) (partsDales pl dales hills) ≡ surveyAnswer pl lent .pits
+    pub hillNumber : (lent : List ℕ) → length lent ≡ posts pl
+        → namesIn (posts pl) (partsHills pl dales hills) ≡ surveyAnswer pl lent .peaks
     -- each is in one piece along edges
-    pub dalePiece : (w : ℕ) → OnePiece EdgeOf (InDale (partsDales rows columns hs dales hills) w)
-    pub hillPiece : (w : ℕ) → OnePiece EdgeOf (InHill (partsHills rows columns hs dales hills) w)
+    pub dalePiece : (w : ℕ) → OnePiece EdgeOf (InDale (partsDales pl dales hills) w)
+    pub hillPiece : (w : ℕ) → OnePiece EdgeOf (InHill (partsHills pl dales hills) w)
 
 -- what a series leaves, from a survey of `hs`
-pub record Promised (rows columns : ℕ) (hs : List ℤ) (calls : List Reshoot) (left : Sheet) : Type 0 where
+pub record Promised (pl : Plot) (calls : List Reshoot) (left : Sheet) : Type 0 where
   -- the heights are the surveyed ones with each accepted new height put in, in turn
-  pub heights : left .heights ≡ plainAll hs calls
+  pub heights : left .heights ≡ plainAll pl.heights calls
   -- the marks are exactly those of a fresh survey of them
-  pub marks : left .marks ≡ marksOf rows columns (left .heights)
-  pub fresh : (lent : List ℕ) → length lent ≡ rows * columns
-      → (surveyAnswer rows columns (left .heights) lent .code ≡ 0) × (surveyMarks rows columns (left .heights) lent ≡ left .marks)
+  pub marks : left .marks ≡ marksOf (over pl (left .heights))
+  pub fresh : (lent : List ℕ) → length lent ≡ posts pl
+      → (surveyAnswer (over pl (left .heights)) lent .code ≡ 0) × (surveyMarks (over pl (left .heights)) lent ≡ left .marks)
   -- in that survey's counts peaks plus pits, the virtual pit included, less saddles by multiplicity, make two
-  pub balance : (lent : List ℕ) → length lent ≡ rows * columns
-      → surveyAnswer rows columns (left .heights) lent .peaks + surveyAnswer rows columns (left .heights) lent .pits
-      ≡ 2 + surveyAnswer rows columns (left .heights) lent .saddles
+  pub balance : (lent : List ℕ) → length lent ≡ posts pl
+      → surveyAnswer (over pl (left .heights)) lent .peaks + surveyAnswer (over pl (left .heights)) lent .pits
+      ≡ 2 + surveyAnswer (over pl (left .heights)) lent .saddles
   -- every water line falls at every step in document 01's height order and ends at a pit
-  pub thalwegs : (post run : ℕ) (list : List ℕ) → thalwegAnswer rows columns (left .heights) post run list .code ≡ 0
-      → LineOf rows columns (left .heights) (below (left .heights)) (IsPit rows columns (left .heights)) post
-      (take (thalwegAnswer rows columns (left .heights) post run list .count) (thalwegList rows columns (left .heights) post run list))
+  pub thalwegs : (post run : ℕ) (list : List ℕ) → thalwegAnswer (over pl (left .heights)) post run list .code ≡ 0
+      → LineOf (over pl (left .heights)) (below (over pl (left .heights))) (IsPit (over pl (left .heights))) post
+      (take (thalwegAnswer (over pl (left .heights)) post run list .count) (thalwegList (over pl (left .heights)) post run list))
   -- (every lower run of every saddle has its line: a list of one entry more than there are posts always has room for it)
-  pub thalwegsDrawn : (post run : ℕ) (list : List ℕ) → post < rows * columns → 3 ≤ getD (left .marks) post 0
-      → run < length (lowerRuns (below (left .heights)) (ringOf rows columns (left .heights)) post)
-      → rows * columns + 1 ≤ length list
-      → thalwegAnswer rows columns (left .heights) post run list .code ≡ 0
+  pub thalwegsDrawn : (post run : ℕ) (list : List ℕ) → post < posts pl → 3 ≤ getD (left .marks) post 0
+      → run < length (lowerRuns (below (over pl (left .heights))) (ringOf (over pl (left .heights))) post)
+      → posts pl + 1 ≤ length list
+      → thalwegAnswer (over pl (left .heights)) post run list .code ≡ 0
   -- every crest line rises so and ends at a peak
-  pub ridges : (post run : ℕ) (list : List ℕ) → ridgeAnswer rows columns (left .heights) post run list .code ≡ 0
-      → LineOf rows columns (left .heights) (reversed (below (left .heights))) (IsPeak rows columns (left .heights)) post
-      (take (ridgeAnswer rows columns (left .heights) post run list .count) (ridgeList rows columns (left .heights) post run list))
+  pub ridges : (post run : ℕ) (list : List ℕ) → ridgeAnswer (over pl (left .heights)) post run list .code ≡ 0
+      → LineOf (over pl (left .heights)) (reversed (below (over pl (left .heights)))) (IsPeak (over pl (left .heights))) post
+      (take (ridgeAnswer (over pl (left .heights)) post run list .count) (ridgeList (over pl (left .heights)) post run list))
   -- (every upper run of every saddle has its line)
-  pub ridgesDrawn : (post run : ℕ) (list : List ℕ) → post < rows * columns → 3 ≤ getD (left .marks) post 0
-      → run < length (upperRuns (below (left .heights)) (ringOf rows columns (left .heights)) post)
-      → rows * columns + 1 ≤ length list
-      → ridgeAnswer rows columns (left .heights) post run list .code ≡ 0
+  pub ridgesDrawn : (post run : ℕ) (list : List ℕ) → post < posts pl → 3 ≤ getD (left .marks) post 0
+      → run < length (upperRuns (below (over pl (left .heights))) (ringOf (over pl (left .heights))) post)
+      → posts pl + 1 ≤ length list
+      → ridgeAnswer (over pl (left .heights)) post run list .code ≡ 0
   -- every post lies in exactly one dale and one hill; dales number the pits, hills the peaks, and each is in one piece along edges
-  pub parted : (dales hills : List ℕ) → length dales ≡ rows * columns → length hills ≡ rows * columns → Parted rows columns (left .heights) dales hills
+  pub parted : (dales hills : List ℕ) → length dales ≡ posts pl → length hills ≡ posts pl → Parted (over pl (left .heights)) dales hills
 
 -- the sheet as a survey left it
-abbrev pub surveyed : ℕ → ℕ → List ℤ → List ℕ → Sheet
-surveyed rows columns hs marks = record { heights = hs; marks = surveyMarks rows columns hs marks }
+abbrev pub surveyed : Plot → List ℕ → Sheet
+surveyed pl marks = record { heights = pl.heights; marks = surveyMarks pl marks }
 
 -- Take any accepted survey and any series of re-shoots after it, accepted and turned away in any order, the accepted ones with the survey's rows and
 -- columns.
 abbrev pub Demand3 : Type 0
 Demand3 =
-    (rows columns : ℕ) (hs : List ℤ) (marks : List ℕ) (calls : List Reshoot)
-    → surveyAnswer rows columns hs marks .code ≡ 0
-    → Kept rows columns (surveyed rows columns hs marks) calls
-    → Promised rows columns hs calls (afterAll (surveyed rows columns hs marks) calls)
+    (pl : Plot) (marks : List ℕ) (calls : List Reshoot)
+    → surveyAnswer pl marks .code ≡ 0
+    → Kept pl.rows pl.columns (surveyed pl marks) calls
+    → Promised pl calls (afterAll (surveyed pl marks) calls)

@@ -7,7 +7,7 @@ use lib.Dec.{eqb}
 use lib.IntN.{ℤ}
 use lib.ListN.{getD}
 use Rattle.surface.specs.Lists.{listOf, filter, any}
-use Rattle.surface.specs.Plot.{virtualPit, below, reversed}
+use Rattle.surface.specs.Plot.{Plot, posts, virtualPit, below, reversed}
 use Rattle.surface.specs.Edges.{lowest, lowerRuns}
 use Rattle.surface.specs.Marks.{ringOf}
 
@@ -52,30 +52,30 @@ OnePiece edge member = (p q : ℕ) → member p → member q → Way edge member
 abbrev pub lowestOf : (ℕ → ℕ → Bool) → ℕ → List ℕ → ℕ
 lowestOf lower p members = lowest lower members
 
-module _ (rows columns : ℕ) (hs : List ℤ) where
+module _ (pl : Plot) where
   unfoldable pub nextDown : ℕ → ℕ
-  nextDown = next (below hs) (ringOf rows columns hs) (lowestOf (below hs))
+  nextDown = next (below pl) (ringOf pl) (lowestOf (below pl))
 
   unfoldable pub nextUp : ℕ → ℕ
-  nextUp = next (reversed (below hs)) (ringOf rows columns hs) (lowestOf (reversed (below hs)))
+  nextUp = next (reversed (below pl)) (ringOf pl) (lowestOf (reversed (below pl)))
 
   -- water line
   unfoldable pub thalweg : ℕ → ℕ → List ℕ
-  thalweg = line (below hs) (ringOf rows columns hs) (lowestOf (below hs)) (rows * columns)
+  thalweg = line (below pl) (ringOf pl) (lowestOf (below pl)) (posts pl)
 
   -- crest line
   unfoldable pub ridge : ℕ → ℕ → List ℕ
-  ridge = line (reversed (below hs)) (ringOf rows columns hs) (lowestOf (reversed (below hs))) (rows * columns)
+  ridge = line (reversed (below pl)) (ringOf pl) (lowestOf (reversed (below pl))) (posts pl)
 
   -- the pit that names the dale of a post, and the peak that names its hill
   unfoldable pub daleAt : ℕ → ℕ
-  daleAt = end (below hs) (ringOf rows columns hs) (lowestOf (below hs)) (rows * columns)
+  daleAt = end (below pl) (ringOf pl) (lowestOf (below pl)) (posts pl)
 
   unfoldable pub hillAt : ℕ → ℕ
-  hillAt = end (reversed (below hs)) (ringOf rows columns hs) (lowestOf (reversed (below hs))) (rows * columns)
+  hillAt = end (reversed (below pl)) (ringOf pl) (lowestOf (reversed (below pl))) (posts pl)
 
   unfoldable pub dalesOf : List ℕ
-  dalesOf = listOf daleAt (rows * columns)
+  dalesOf = listOf daleAt (posts pl)
 
   unfoldable pub hillsOf : List ℕ
-  hillsOf = listOf hillAt (rows * columns)
+  hillsOf = listOf hillAt (posts pl)

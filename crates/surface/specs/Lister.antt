@@ -7,7 +7,7 @@ use lib.Dec.{ltb, eqb}
 use lib.IntN.{ℤ, pos}
 use lib.ListN.{length, getD, take, replicate}
 use Rattle.surface.specs.Lists.{listOf, lastOr}
-use Rattle.surface.specs.Plot.{virtualPit, below}
+use Rattle.surface.specs.Plot.{Plot, plot, posts, virtualPit, below}
 use Rattle.surface.specs.Edges.{lowerRuns, upperRuns}
 use Rattle.surface.specs.Marks.{ringOf, markAt, marksOf, peaks, pits, saddles}
 use Rattle.surface.specs.Lines.{thalweg, ridge}
@@ -40,12 +40,12 @@ textLine letter l = letter ∷ fields l
 unfoldable pub endName : ℕ → List ℕ
 endName v = cond (eqb v virtualPit) (86 ∷ []) (decimal v)
 
-module _ (rows columns : ℕ) (hs : List ℤ) where
+module _ (pl : Plot) where
   -- N, rows, columns, peaks, pits, saddles
   unfoldable pub headLine : List ℕ
   headLine =
-      let m = marksOf rows columns hs in
-      textLine 78 (decimal rows ∷ decimal columns ∷ decimal (peaks m) ∷ decimal (pits m) ∷ decimal (saddles m) ∷ [])
+      let m = marksOf pl in
+      textLine 78 (decimal pl.rows ∷ decimal pl.columns ∷ decimal (peaks m) ∷ decimal (pits m) ∷ decimal (saddles m) ∷ [])
 
   -- T, saddle, run, end; R likewise
   unfoldable pub lineText : ℕ → ℕ → ℕ → List ℕ → List ℕ
@@ -54,15 +54,15 @@ module _ (rows columns : ℕ) (hs : List ℤ) where
   -- a saddle's water lines, then its crest lines
   unfoldable pub saddleLines : ℕ → List ℕ
   saddleLines p =
-      concat (listOf (λ run. lineText 84 p run (thalweg rows columns hs p run)) (length (lowerRuns (below hs) (ringOf rows columns hs) p)))
-      ++ concat (listOf (λ run. lineText 82 p run (ridge rows columns hs p run)) (length (upperRuns (below hs) (ringOf rows columns hs) p)))
+      concat (listOf (λ run. lineText 84 p run (thalweg pl p run)) (length (lowerRuns (below pl) (ringOf pl) p)))
+      ++ concat (listOf (λ run. lineText 82 p run (ridge pl p run)) (length (upperRuns (below pl) (ringOf pl) p)))
 
   unfoldable pub postLines : ℕ → List ℕ
-  postLines p = cond (ltb (markAt rows columns hs p) 3) [] (saddleLines p)
+  postLines p = cond (ltb (markAt pl p) 3) [] (saddleLines p)
 
   -- the saddles in post order
   unfoldable pub plotText : List ℕ
-  plotText = headLine ++ concat (listOf postLines (rows * columns))
+  plotText = headLine ++ concat (listOf postLines (posts pl))
 
 -- a refusal: E, number, place
 unfoldable pub refusedText : ℕ → ℕ → List ℕ
@@ -73,7 +73,7 @@ unfoldable pub listing : List ℕ → List ℕ
 listing file =
     let lent = replicate (getD file 5 0 * getD file 6 0) (pos 0) in
     let a = readAnswer file lent in
-    cond (eqb (a .code) 0) (plotText (a .rows) (a .columns) (readHeights file lent)) (refusedText (a .code) (a .place))
+    cond (eqb (a .code) 0) (plotText (plot (a .rows) (a .columns) (readHeights file lent))) (refusedText (a .code) (a .place))
 
 -- at most 57,608 bytes of standard input are looked at. (No contract speaks of what a program reads or prints: that the lister prints this is tested.)
 unfoldable pub printed : List ℕ → List ℕ
@@ -83,7 +83,7 @@ printed input = listing (take 57608 input)
 --     N 3 3 4 1 3 / T 4 0 V / T 4 1 V / T 4 2 V / T 4 3 V / R 4 0 1 / R 4 1 5 / R 4 2 7 / R 4 3 3
 abbrev pub StarListing : Type 0
 StarListing =
-    printed (fileOf 3 3 star)
+    printed (fileOf star)
     ≡ textLine 78 ((51 ∷ []) ∷ (51 ∷ []) ∷ (52 ∷ []) ∷ (49 ∷ []) ∷ (51 ∷ []) ∷ [])
     ++ textLine 84 ((52 ∷ []) ∷ (48 ∷ []) ∷ (86 ∷ []) ∷ [])
     ++ textLine 84 ((52 ∷ []) ∷ (49 ∷ []) ∷ (86 ∷ []) ∷ [])

@@ -6,7 +6,7 @@ use lib.Dec.{leb, eqb}
 use lib.IntN.{ℤ}
 use lib.ListN.{length, getD}
 use Rattle.surface.specs.Lists.{listOf, any, count, total}
-use Rattle.surface.specs.Plot.{row, column, below}
+use Rattle.surface.specs.Plot.{Plot, posts, row, column, below}
 use Rattle.surface.specs.Edges.{ring, throughLowest, lowerRuns}
 
 -- 1 peak: no neighbour is above. 2 pit: no neighbour is below. 0 ordinary: one lower run and some neighbour above. 3, 4, 5: a saddle of 2, 3, 4 lower runs
@@ -32,14 +32,17 @@ unfoldable pub saddles : List ℕ → ℕ
 saddles marks = total (map multiplicity marks)
 
 -- document 01's rings, with the diagonals through the lowest posts, and its marks
-unfoldable pub ringOf : ℕ → ℕ → List ℤ → ℕ → List ℕ
-ringOf rows columns hs = ring rows columns (throughLowest (below hs) columns)
+abbrev pub fallsIn : Plot → ℕ → Bool
+fallsIn pl = throughLowest (below pl) pl.columns
 
-unfoldable pub markAt : ℕ → ℕ → List ℤ → ℕ → ℕ
-markAt rows columns hs = mark (below hs) (ringOf rows columns hs)
+unfoldable pub ringOf : Plot → ℕ → List ℕ
+ringOf pl = ring pl.rows pl.columns (fallsIn pl)
 
-unfoldable pub marksOf : ℕ → ℕ → List ℤ → List ℕ
-marksOf rows columns hs = listOf (markAt rows columns hs) (rows * columns)
+unfoldable pub markAt : Plot → ℕ → ℕ
+markAt pl = mark (below pl) (ringOf pl)
+
+unfoldable pub marksOf : Plot → List ℕ
+marksOf pl = listOf (markAt pl) (posts pl)
 
 -- two posts are the same or touch by side or corner
 abbrev pub near : ℕ → ℕ → Bool
@@ -49,5 +52,5 @@ unfoldable pub touches : ℕ → ℕ → ℕ → Bool
 touches columns p q = near (row columns p) (row columns q) && near (column columns p) (column columns q)
 
 -- a re-shoot writes afresh the marks of post p and of those that touch it
-unfoldable pub redrawn : ℕ → ℕ → List ℤ → List ℕ → ℕ → List ℕ
-redrawn rows columns hs marks p = listOf (λ i. cond (touches columns p i) (markAt rows columns hs i) (getD marks i 0)) (length marks)
+unfoldable pub redrawn : Plot → List ℕ → ℕ → List ℕ
+redrawn pl marks p = listOf (λ i. cond (touches pl.columns p i) (markAt pl i) (getD marks i 0)) (length marks)

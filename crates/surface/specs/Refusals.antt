@@ -6,7 +6,7 @@ use lib.Dec.{ltb, eqb}
 use lib.IntN.{ℤ}
 use lib.ListN.{length, getD}
 use Rattle.surface.specs.Lists.{firstNot}
-use Rattle.surface.specs.Plot.{isSide, isHeight}
+use Rattle.surface.specs.Plot.{Plot, posts, isSide, isHeight}
 use Rattle.surface.specs.Edges.{lowerRuns}
 use Rattle.surface.specs.Marks.{ringOf, markAt}
 use Rattle.surface.specs.SurveyFile.{statedCount, countFor, fileSize, isTenths, tenthsOf}
@@ -47,8 +47,8 @@ abbrev pub row1 : ℕ → ℕ → Row
 row1 rows columns = rowOf 1 (not (isSide rows && isSide columns))
 
 -- 2: heights lent to be read are not rows times columns
-abbrev pub row2 : ℕ → ℕ → List ℤ → Row
-row2 rows columns hs = rowOf 2 (isNot hs (rows * columns))
+abbrev pub row2 : Plot → Row
+row2 pl = rowOf 2 (isNot pl.heights (posts pl))
 
 -- 3: another lent list is not exactly its size
 abbrev pub row3 : {A : Type 0} → List A → ℕ → Row
@@ -67,12 +67,12 @@ abbrev pub row6 : ℤ → Row
 row6 new = rowOf 6 (not (isHeight new))
 
 -- 7: a line of a post that is no saddle
-abbrev pub row7 : ℕ → ℕ → List ℤ → ℕ → Row
-row7 rows columns hs post = rowOf 7 (ltb (markAt rows columns hs post) 3)
+abbrev pub row7 : Plot → ℕ → Row
+row7 pl post = rowOf 7 (ltb (markAt pl post) 3)
 
 -- 8: run number not below the post's runs of that sort: the lower ones, or the upper ones, which are lower in the reversed order
-abbrev pub row8 : ℕ → ℕ → (ℕ → ℕ → Bool) → List ℤ → ℕ → ℕ → Row
-row8 rows columns lower hs post run = rowOf 8 (not (ltb run (length (lowerRuns lower (ringOf rows columns hs) post))))
+abbrev pub row8 : Plot → (ℕ → ℕ → Bool) → ℕ → ℕ → Row
+row8 pl lower post run = rowOf 8 (not (ltb run (length (lowerRuns lower (ringOf pl) post))))
 
 -- 9: the line has more entries than its list
 abbrev pub row9 : List ℕ → List ℕ → Row
@@ -92,54 +92,54 @@ row12 file rows columns =
     rowOf 12 (not (eqb (statedCount file) (length file - 5)) || not (eqb (statedCount file) (countFor rows columns)))
 
 -- What each call is turned away for.
-module _ (rows columns : ℕ) (hs : List ℤ) where
+module _ (pl : Plot) where
   unfoldable pub surveyVerdict : List ℕ → Verdict
   surveyVerdict marks =
-      verdict (row1 rows columns ∷ row2 rows columns hs ∷ row3 marks (rows * columns) ∷ row4 isHeight hs ∷ [])
+      verdict (row1 pl.rows pl.columns ∷ row2 pl ∷ row3 marks (posts pl) ∷ row4 isHeight pl.heights ∷ [])
 
   unfoldable pub reshootVerdict : List ℕ → ℕ → ℤ → Verdict
   reshootVerdict marks post new =
       verdict
-      (row1 rows columns
-      ∷ row2 rows columns hs
-      ∷ row3 marks (rows * columns)
-      ∷ row4 isHeight hs
-      ∷ row5 rows columns post
+      (row1 pl.rows pl.columns
+      ∷ row2 pl
+      ∷ row3 marks (posts pl)
+      ∷ row4 isHeight pl.heights
+      ∷ row5 pl.rows pl.columns post
       ∷ row6 new
       ∷ [])
 
   unfoldable pub nextVerdict : ℕ → Verdict
-  nextVerdict post = verdict (row1 rows columns ∷ row2 rows columns hs ∷ row4 isHeight hs ∷ row5 rows columns post ∷ [])
+  nextVerdict post = verdict (row1 pl.rows pl.columns ∷ row2 pl ∷ row4 isHeight pl.heights ∷ row5 pl.rows pl.columns post ∷ [])
 
   -- of a line in the order `lower` whose entries are `entries`
   unfoldable pub lineVerdict : (ℕ → ℕ → Bool) → List ℕ → ℕ → ℕ → List ℕ → Verdict
   lineVerdict lower entries post run list =
       verdict
-      (row1 rows columns
-      ∷ row2 rows columns hs
-      ∷ row4 isHeight hs
-      ∷ row5 rows columns post
-      ∷ row7 rows columns hs post
-      ∷ row8 rows columns lower hs post run
+      (row1 pl.rows pl.columns
+      ∷ row2 pl
+      ∷ row4 isHeight pl.heights
+      ∷ row5 pl.rows pl.columns post
+      ∷ row7 pl post
+      ∷ row8 pl lower post run
       ∷ row9 entries list
       ∷ [])
 
   unfoldable pub partsVerdict : List ℕ → List ℕ → Verdict
   partsVerdict dales hills =
       verdict
-      (row1 rows columns
-      ∷ row2 rows columns hs
-      ∷ rowOf 3 (isNot dales (rows * columns) || isNot hills (rows * columns))
-      ∷ row4 isHeight hs
+      (row1 pl.rows pl.columns
+      ∷ row2 pl
+      ∷ rowOf 3 (isNot dales (posts pl) || isNot hills (posts pl))
+      ∷ row4 isHeight pl.heights
       ∷ [])
 
   unfoldable pub writeVerdict : List ℕ → Verdict
   writeVerdict file =
       verdict
-      (row1 rows columns
-      ∷ row2 rows columns hs
-      ∷ row3 file (fileSize rows columns)
-      ∷ row4 isHeight hs
+      (row1 pl.rows pl.columns
+      ∷ row2 pl
+      ∷ row3 file (fileSize pl.rows pl.columns)
+      ∷ row4 isHeight pl.heights
       ∷ [])
 
 -- of reading a file into a list that receives the heights

@@ -4,6 +4,7 @@ use mathlib.Core.Path.{_≡_}
 use mathlib.Core.List.{List, [], _∷_}
 use lib.IntN.{ℤ}
 use lib.ListN.{length, replicate, set}
+use Rattle.surface.specs.Plot.{plot}
 use Rattle.surface.specs.Refusals.{settled, reshootVerdict}
 use Rattle.surface.specs.Calls.{reshootHeights, reshootMarks, reshootAnswer}
 
@@ -23,8 +24,8 @@ pub record Sheet : Type 0 where
 unfoldable pub after : Sheet → Reshoot → Sheet
 after s c =
     record {
-      heights = reshootHeights (c .rows) (c .columns) (s .heights) (s .marks) (c .post) (c .new);
-      marks = reshootMarks (c .rows) (c .columns) (s .heights) (s .marks) (c .post) (c .new);
+      heights = reshootHeights (plot (c .rows) (c .columns) (s .heights)) (s .marks) (c .post) (c .new);
+      marks = reshootMarks (plot (c .rows) (c .columns) (s .heights)) (s .marks) (c .post) (c .new);
     }
 
 unfoldable pub afterAll : Sheet → List Reshoot → Sheet
@@ -35,13 +36,13 @@ afterAll s (c ∷ cs) = afterAll (after s c) cs
 unfoldable pub Kept : ℕ → ℕ → Sheet → List Reshoot → Type 0
 Kept rows columns s [] = Unit {0}
 Kept rows columns s (c ∷ cs) =
-    (reshootAnswer (c .rows) (c .columns) (s .heights) (s .marks) (c .post) (c .new) .code ≡ 0 → (c .rows ≡ rows) × (c .columns ≡ columns))
+    (reshootAnswer (plot (c .rows) (c .columns) (s .heights)) (s .marks) (c .post) (c .new) .code ≡ 0 → (c .rows ≡ rows) × (c .columns ≡ columns))
     × Kept rows columns (after s c) cs
 
 -- the plain list of heights kept next to it: it and as many marks stand for the two lists lent (of marks only the number is looked at)
 unfoldable pub plain : List ℤ → Reshoot → List ℤ
 plain hs c =
-    settled (reshootVerdict (c .rows) (c .columns) hs (replicate (length hs) 0) (c .post) (c .new)) (set hs (c .post) (c .new)) hs
+    settled (reshootVerdict (plot (c .rows) (c .columns) hs) (replicate (length hs) 0) (c .post) (c .new)) (set hs (c .post) (c .new)) hs
 
 unfoldable pub plainAll : List ℤ → List Reshoot → List ℤ
 plainAll hs [] = hs

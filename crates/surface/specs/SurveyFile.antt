@@ -13,6 +13,7 @@ use lib.IntN.{ℤ, pos, negsuc, negℤ, _*ℤ_}
 use lib.Signed.{ltZ}
 use lib.ListN.{getD}
 use Rattle.surface.specs.Lists.{listOf}
+use Rattle.surface.specs.Plot.{Plot}
 
 -- the big-endian 32-bit number at byte i
 unfoldable pub wordAt : List ℕ → ℕ → ℕ
@@ -62,5 +63,5 @@ unfoldable pub filedHeights : List ℤ → List ℕ
 filedHeights [] = []
 filedHeights (z ∷ hs) = bytesOf (unsigned (z *ℤ pos 10)) ++ filedHeights hs
 
-unfoldable pub fileOf : ℕ → ℕ → List ℤ → List ℕ
-fileOf rows columns hs = 1 ∷ bytesOf (countFor rows columns) ++ rows ∷ columns ∷ filedHeights hs
+unfoldable pub fileOf : Plot → List ℕ
+fileOf pl = 1 ∷ bytesOf (countFor pl.rows pl.columns) ++ pl.rows ∷ pl.columns ∷ filedHeights pl.heights

@@ -5,12 +5,13 @@ use surface::Entries;
 use surface::Next;
 use surface::Size;
 ghost use mathlib.Core.Path.{_≡_};
+ghost use Rattle.surface.specs.Plot.{plot};
 ghost use Rattle.surface.specs.Calls.{surveyAnswer, surveyMarks, reshootAnswer, reshootHeights, reshootMarks, nextDownAnswer, nextUpAnswer, thalwegAnswer, thalwegList, ridgeAnswer, ridgeList, partsAnswer, partsDales, partsHills, readAnswer, readHeights, writeAnswer, writeFile};
 
 #[no_mangle]
 pub extern "C" fn sn_survey(rows: u32, columns: u32, heights: &[i32], marks: &mut [u8]) -> Counts
-    ensures { λ r. ⌜ r ≡ surveyAnswer rows columns (now (heights .entry)) (now (marks .entry)) ⌝ }
-    ensures { λ _. ⌜ now (marks .exit) ≡ surveyMarks rows columns (now (heights .entry)) (now (marks .entry)) ⌝ }
+    ensures { λ r. ⌜ r ≡ surveyAnswer (plot rows columns (now (heights .entry))) (now (marks .entry)) ⌝ }
+    ensures { λ _. ⌜ now (marks .exit) ≡ surveyMarks (plot rows columns (now (heights .entry))) (now (marks .entry)) ⌝ }
 {
     survey::survey(rows, columns, heights, marks)
 }
@@ -24,23 +25,23 @@ pub extern "C" fn sn_reshoot(
     post: u32,
     height: i32,
 ) -> Answer
-    ensures { λ r. ⌜ r ≡ reshootAnswer rows columns (now (heights .entry)) (now (marks .entry)) post height ⌝ }
-    ensures { λ _. ⌜ now (heights .exit) ≡ reshootHeights rows columns (now (heights .entry)) (now (marks .entry)) post height ⌝ }
-    ensures { λ _. ⌜ now (marks .exit) ≡ reshootMarks rows columns (now (heights .entry)) (now (marks .entry)) post height ⌝ }
+    ensures { λ r. ⌜ r ≡ reshootAnswer (plot rows columns (now (heights .entry))) (now (marks .entry)) post height ⌝ }
+    ensures { λ _. ⌜ now (heights .exit) ≡ reshootHeights (plot rows columns (now (heights .entry))) (now (marks .entry)) post height ⌝ }
+    ensures { λ _. ⌜ now (marks .exit) ≡ reshootMarks (plot rows columns (now (heights .entry))) (now (marks .entry)) post height ⌝ }
 {
     survey::reshoot(rows, columns, heights, marks, post, height)
 }
 
 #[no_mangle]
 pub extern "C" fn sn_next_down(rows: u32, columns: u32, heights: &[i32], post: u32) -> Next
-    ensures { λ r. ⌜ r ≡ nextDownAnswer rows columns (now (heights .entry)) post ⌝ }
+    ensures { λ r. ⌜ r ≡ nextDownAnswer (plot rows columns (now (heights .entry))) post ⌝ }
 {
     lines::next_down(rows, columns, heights, post)
 }
 
 #[no_mangle]
 pub extern "C" fn sn_next_up(rows: u32, columns: u32, heights: &[i32], post: u32) -> Next
-    ensures { λ r. ⌜ r ≡ nextUpAnswer rows columns (now (heights .entry)) post ⌝ }
+    ensures { λ r. ⌜ r ≡ nextUpAnswer (plot rows columns (now (heights .entry))) post ⌝ }
 {
     lines::next_up(rows, columns, heights, post)
 }
@@ -54,8 +55,8 @@ pub extern "C" fn sn_thalweg(
     run: u32,
     line: &mut [u16],
 ) -> Entries
-    ensures { λ r. ⌜ r ≡ thalwegAnswer rows columns (now (heights .entry)) post run (now (line .entry)) ⌝ }
-    ensures { λ _. ⌜ now (line .exit) ≡ thalwegList rows columns (now (heights .entry)) post run (now (line .entry)) ⌝ }
+    ensures { λ r. ⌜ r ≡ thalwegAnswer (plot rows columns (now (heights .entry))) post run (now (line .entry)) ⌝ }
+    ensures { λ _. ⌜ now (line .exit) ≡ thalwegList (plot rows columns (now (heights .entry))) post run (now (line .entry)) ⌝ }
 {
     lines::thalweg(rows, columns, heights, post, run, line)
 }
@@ -69,8 +70,8 @@ pub extern "C" fn sn_ridge(
     run: u32,
     line: &mut [u16],
 ) -> Entries
-    ensures { λ r. ⌜ r ≡ ridgeAnswer rows columns (now (heights .entry)) post run (now (line .entry)) ⌝ }
-    ensures { λ _. ⌜ now (line .exit) ≡ ridgeList rows columns (now (heights .entry)) post run (now (line .entry)) ⌝ }
+    ensures { λ r. ⌜ r ≡ ridgeAnswer (plot rows columns (now (heights .entry))) post run (now (line .entry)) ⌝ }
+    ensures { λ _. ⌜ now (line .exit) ≡ ridgeList (plot rows columns (now (heights .entry))) post run (now (line .entry)) ⌝ }
 {
     lines::ridge(rows, columns, heights, post, run, line)
 }
@@ -83,9 +84,9 @@ pub extern "C" fn sn_dales_and_hills(
     dales: &mut [u16],
     hills: &mut [u16],
 ) -> Answer
-    ensures { λ r. ⌜ r ≡ partsAnswer rows columns (now (heights .entry)) (now (dales .entry)) (now (hills .entry)) ⌝ }
-    ensures { λ _. ⌜ now (dales .exit) ≡ partsDales rows columns (now (heights .entry)) (now (dales .entry)) (now (hills .entry)) ⌝ }
-    ensures { λ _. ⌜ now (hills .exit) ≡ partsHills rows columns (now (heights .entry)) (now (dales .entry)) (now (hills .entry)) ⌝ }
+    ensures { λ r. ⌜ r ≡ partsAnswer (plot rows columns (now (heights .entry))) (now (dales .entry)) (now (hills .entry)) ⌝ }
+    ensures { λ _. ⌜ now (dales .exit) ≡ partsDales (plot rows columns (now (heights .entry))) (now (dales .entry)) (now (hills .entry)) ⌝ }
+    ensures { λ _. ⌜ now (hills .exit) ≡ partsHills (plot rows columns (now (heights .entry))) (now (dales .entry)) (now (hills .entry)) ⌝ }
 {
     parts::dales_and_hills(rows, columns, heights, dales, hills)
 }
@@ -105,8 +106,8 @@ pub extern "C" fn sn_write_survey(
     heights: &[i32],
     file: &mut [u8],
 ) -> Answer
-    ensures { λ r. ⌜ r ≡ writeAnswer rows columns (now (heights .entry)) (now (file .entry)) ⌝ }
-    ensures { λ _. ⌜ now (file .exit) ≡ writeFile rows columns (now (heights .entry)) (now (file .entry)) ⌝ }
+    ensures { λ r. ⌜ r ≡ writeAnswer (plot rows columns (now (heights .entry))) (now (file .entry)) ⌝ }
+    ensures { λ _. ⌜ now (file .exit) ≡ writeFile (plot rows columns (now (heights .entry))) (now (file .entry)) ⌝ }
 {
     survey_file::write_survey(rows, columns, heights, file)
 }

@@ -10,7 +10,7 @@ use lib.IntN.{ℤ}
 use lib.ListN.{length, getD}
 use lib.Seq.{ext-getD}
 use borrow.Author.Tests.{leb-true, ltb-true, le-leb, lt-ltb, le-ltb}
-use Rattle.surface.specs.Plot.{row, column}
+use Rattle.surface.specs.Plot.{Plot, posts, row, column}
 use Rattle.surface.specs.Marks.{near, touches, markAt, redrawn}
 use Rattle.surface.proofs.Bools.{either, same-test, and-left, and-right}
 use Rattle.surface.proofs.ListOf.{length-listOf, getD-listOf}
@@ -83,17 +83,17 @@ near-within a n b h =
     (same-test (leb (a - 1) b) (leb a (b + 1)) (λ e. le-leb a (b + 1) (omega (arith, leb-true (a - 1) b e))) (λ e. le-leb (a - 1) b (omega (arith, leb-true a (b + 1) e))))
     (same-test (ltb b (min (a + 2) n)) (leb b (a + 1)) (λ e. le-leb b (a + 1) (omega (arith, ltb-true b (min (a + 2) n) e))) (λ e. lt-ltb b (min (a + 2) n) (omega (arith, leb-true b (a + 1) e))))
 
-module _ {rows columns : ℕ} (s : Sides rows columns) (hs : List ℤ) (post : ℕ) where
-  pub painted-redrawn : (l₀ l : List ℕ) → length l₀ ≡ rows * columns
-      → Painted columns (markAt rows columns hs) (column columns post - 1) (min (column columns post + 2) columns) (row columns post - 1) (min (row columns post + 2) rows) l₀ l
-      → l ≡ redrawn rows columns hs l₀ post
+module _ (pl : Plot) (s : Sides pl.rows pl.columns) (post : ℕ) where
+  pub painted-redrawn : (l₀ l : List ℕ) → length l₀ ≡ posts pl
+      → Painted pl.columns (markAt pl) (column pl.columns post - 1) (min (column pl.columns post + 2) pl.columns) (row pl.columns post - 1) (min (row pl.columns post + 2) pl.rows) l₀ l
+      → l ≡ redrawn pl l₀ post
   unfolding redrawn touches
   painted-redrawn l₀ l e p =
       ext-getD 0 l _ (p .long ∙ sym (length-listOf _ (length l₀)))
       (λ j h.
       let k : j < length l₀ = omega (arith, p .long) in
-      let n : j < rows * columns = omega arith in
+      let n : j < posts pl = omega arith in
       p .at j k
-      ∙ ap (λ (t : Bool). cond t (markAt rows columns hs j) (getD l₀ j 0))
-      (ap₂ _&&_ (near-within (row columns post) rows (row columns j) (row-lt s rows j .1 n)) (near-within (column columns post) columns (column columns j) (column-lt s j)))
+      ∙ ap (λ (t : Bool). cond t (markAt pl j) (getD l₀ j 0))
+      (ap₂ _&&_ (near-within (row pl.columns post) pl.rows (row pl.columns j) (row-lt s pl.rows j .1 n)) (near-within (column pl.columns post) pl.columns (column pl.columns j) (column-lt s j)))
       ∙ sym (getD-listOf _ (length l₀) j 0 k))

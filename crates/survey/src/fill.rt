@@ -4,6 +4,7 @@ use plot::row::falls_row;
 ghost use mathlib.Core.Path.{_≡_};
 ghost use Prim.Native.Nat.{_+_, _-_, _*_, _≤_, _<_};
 ghost use lib.ListN.{length};
+ghost use Rattle.surface.specs.Plot.{plot};
 ghost use Rattle.surface.specs.Marks.{markAt, marksOf};
 ghost use Rattle.plot.specs.Fits.{Fits};
 ghost use Rattle.plot.specs.Stores.{stores};
@@ -19,8 +20,8 @@ fn mark_inner(
     here: &[bool],
     marks: &mut [u8],
 )
-    requires { ⌜ Inner rows columns (now heights) base (now above) (now here) × (length (now marks) ≡ rows * columns) ⌝ }
-    ensures { λ _. ⌜ now (marks .exit) ≡ stores (markAt rows columns (now (heights .entry))) (base + 1) (columns - 2) (now (marks .entry)) ⌝ }
+    requires { ⌜ Inner (plot rows columns (now heights)) base (now above) (now here) × (length (now marks) ≡ rows * columns) ⌝ }
+    ensures { λ _. ⌜ now (marks .exit) ≡ stores (markAt (plot rows columns (now (heights .entry)))) (base + 1) (columns - 2) (now (marks .entry)) ⌝ }
 {
     let mut c = 1;
     while c + 1 < columns {
@@ -47,8 +48,8 @@ pub(crate) fn mark_each(
     n: usize,
     marks: &mut [u8],
 )
-    requires { ⌜ Fits rows columns (now heights) × (length (now marks) ≡ rows * columns) × (from + n ≤ rows * columns) ⌝ }
-    ensures { λ _. ⌜ now (marks .exit) ≡ stores (markAt rows columns (now (heights .entry))) from n (now (marks .entry)) ⌝ }
+    requires { ⌜ Fits (plot rows columns (now heights)) × (length (now marks) ≡ rows * columns) × (from + n ≤ rows * columns) ⌝ }
+    ensures { λ _. ⌜ now (marks .exit) ≡ stores (markAt (plot rows columns (now (heights .entry)))) from n (now (marks .entry)) ⌝ }
 {
     let mut i = 0;
     while i < n {
@@ -67,8 +68,8 @@ fn mark_row(
     here: &[bool],
     marks: &mut [u8],
 )
-    requires { ⌜ Inner rows columns (now heights) base (now above) (now here) × (length (now marks) ≡ rows * columns) ⌝ }
-    ensures { λ _. ⌜ now (marks .exit) ≡ stores (markAt rows columns (now (heights .entry))) base columns (now (marks .entry)) ⌝ }
+    requires { ⌜ Inner (plot rows columns (now heights)) base (now above) (now here) × (length (now marks) ≡ rows * columns) ⌝ }
+    ensures { λ _. ⌜ now (marks .exit) ≡ stores (markAt (plot rows columns (now (heights .entry)))) base columns (now (marks .entry)) ⌝ }
 {
     mark_each(heights, rows, columns, base, 1, marks);
     mark_inner(heights, rows, columns, base, above, here, marks);
@@ -77,8 +78,8 @@ fn mark_row(
 
 // The marks of every row between the top and the bottom one.
 fn mark_rows(heights: &[i32], rows: usize, columns: usize, marks: &mut [u8])
-    requires { ⌜ Fits rows columns (now heights) × (length (now marks) ≡ rows * columns) ⌝ }
-    ensures { λ _. ⌜ now (marks .exit) ≡ stores (markAt rows columns (now (heights .entry))) columns (rows * columns - columns - columns) (now (marks .entry)) ⌝ }
+    requires { ⌜ Fits (plot rows columns (now heights)) × (length (now marks) ≡ rows * columns) ⌝ }
+    ensures { λ _. ⌜ now (marks .exit) ≡ stores (markAt (plot rows columns (now (heights .entry)))) columns (rows * columns - columns - columns) (now (marks .entry)) ⌝ }
 {
     let mut above = [false; 120];
     let mut here = [false; 120];
@@ -94,8 +95,8 @@ fn mark_rows(heights: &[i32], rows: usize, columns: usize, marks: &mut [u8])
 
 // The marks of a whole plot.
 pub(crate) fn mark_plot(heights: &[i32], rows: usize, columns: usize, marks: &mut [u8])
-    requires { ⌜ Fits rows columns (now heights) × (length (now marks) ≡ rows * columns) ⌝ }
-    ensures { λ _. ⌜ now (marks .exit) ≡ marksOf rows columns (now (heights .entry)) ⌝ }
+    requires { ⌜ Fits (plot rows columns (now heights)) × (length (now marks) ≡ rows * columns) ⌝ }
+    ensures { λ _. ⌜ now (marks .exit) ≡ marksOf (plot rows columns (now (heights .entry))) ⌝ }
 {
     mark_each(heights, rows, columns, 0, columns, marks);
     mark_rows(heights, rows, columns, marks);

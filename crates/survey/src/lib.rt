@@ -10,12 +10,13 @@ use surface::Counts;
 use verdict::reshoot_verdict;
 use verdict::survey_verdict;
 ghost use mathlib.Core.Path.{_≡_};
+ghost use Rattle.surface.specs.Plot.{plot};
 ghost use Rattle.surface.specs.Calls.{surveyAnswer, surveyMarks, reshootAnswer, reshootHeights, reshootMarks};
 
 // Fills the marks of a plot and counts its peaks, pits and saddles. Refused: the marks stay as they were.
 pub fn survey(rows: u32, columns: u32, heights: &[i32], marks: &mut [u8]) -> Counts
-    ensures { λ r. ⌜ r ≡ surveyAnswer rows columns (now (heights .entry)) (now (marks .entry)) ⌝ }
-    ensures { λ _. ⌜ now (marks .exit) ≡ surveyMarks rows columns (now (heights .entry)) (now (marks .entry)) ⌝ }
+    ensures { λ r. ⌜ r ≡ surveyAnswer (plot rows columns (now (heights .entry))) (now (marks .entry)) ⌝ }
+    ensures { λ _. ⌜ now (marks .exit) ≡ surveyMarks (plot rows columns (now (heights .entry))) (now (marks .entry)) ⌝ }
 {
     let verdict = survey_verdict(rows, columns, heights, marks);
     let code = verdict.code;
@@ -48,9 +49,9 @@ pub fn reshoot(
     post: u32,
     height: i32,
 ) -> Answer
-    ensures { λ r. ⌜ r ≡ reshootAnswer rows columns (now (heights .entry)) (now (marks .entry)) post height ⌝ }
-    ensures { λ _. ⌜ now (heights .exit) ≡ reshootHeights rows columns (now (heights .entry)) (now (marks .entry)) post height ⌝ }
-    ensures { λ _. ⌜ now (marks .exit) ≡ reshootMarks rows columns (now (heights .entry)) (now (marks .entry)) post height ⌝ }
+    ensures { λ r. ⌜ r ≡ reshootAnswer (plot rows columns (now (heights .entry))) (now (marks .entry)) post height ⌝ }
+    ensures { λ _. ⌜ now (heights .exit) ≡ reshootHeights (plot rows columns (now (heights .entry))) (now (marks .entry)) post height ⌝ }
+    ensures { λ _. ⌜ now (marks .exit) ≡ reshootMarks (plot rows columns (now (heights .entry))) (now (marks .entry)) post height ⌝ }
 {
     let verdict = reshoot_verdict(rows, columns, heights, marks, post, height);
     let code = verdict.code;

@@ -3,6 +3,7 @@ use crate::fill::mark_each;
 ghost use mathlib.Core.Path.{_≡_};
 ghost use Prim.Native.Nat.{_+_, _-_, _*_, _<_, min};
 ghost use lib.ListN.{length};
+ghost use Rattle.surface.specs.Plot.{plot};
 ghost use Rattle.surface.specs.Marks.{redrawn};
 ghost use Rattle.plot.specs.Fits.{Fits};
 
@@ -29,8 +30,8 @@ fn end_after(x: usize, n: usize) -> usize
 
 // Works out afresh the marks of the at most nine posts round `post`.
 pub(crate) fn redraw(heights: &[i32], rows: usize, columns: usize, post: usize, marks: &mut [u8])
-    requires { ⌜ Fits rows columns (now heights) × (length (now marks) ≡ rows * columns) × (post < rows * columns) ⌝ }
-    ensures { λ _. ⌜ now (marks .exit) ≡ redrawn rows columns (now (heights .entry)) (now (marks .entry)) post ⌝ }
+    requires { ⌜ Fits (plot rows columns (now heights)) × (length (now marks) ≡ rows * columns) × (post < rows * columns) ⌝ }
+    ensures { λ _. ⌜ now (marks .exit) ≡ redrawn (plot rows columns (now (heights .entry))) (now (marks .entry)) post ⌝ }
 {
     let row = post / columns;
     let column = post % columns;

@@ -4,12 +4,13 @@ use plot::limits::ranged;
 use plot::limits::sized;
 use surface::Answer;
 ghost use mathlib.Core.Path.{_≡_};
+ghost use Rattle.surface.specs.Plot.{plot};
 ghost use Rattle.surface.specs.Refusals.{surveyVerdict, reshootVerdict};
 ghost use Rattle.surface.specs.Calls.{answer};
 
 // Rows 1, 2, 3 and 4 of the table.
 pub(crate) fn survey_verdict(rows: u32, columns: u32, heights: &[i32], marks: &[u8]) -> Answer
-    ensures { λ r. ⌜ r ≡ answer (surveyVerdict rows columns (now (heights .entry)) (now (marks .entry))) ⌝ }
+    ensures { λ r. ⌜ r ≡ answer (surveyVerdict (plot rows columns (now (heights .entry))) (now (marks .entry))) ⌝ }
 {
     let code = sized(rows, columns, heights);
     if code != 0 {
@@ -30,7 +31,7 @@ pub(crate) fn reshoot_verdict(
     post: u32,
     height: i32,
 ) -> Answer
-    ensures { λ r. ⌜ r ≡ answer (reshootVerdict rows columns (now (heights .entry)) (now (marks .entry)) post height) ⌝ }
+    ensures { λ r. ⌜ r ≡ answer (reshootVerdict (plot rows columns (now (heights .entry))) (now (marks .entry)) post height) ⌝ }
 {
     let first = survey_verdict(rows, columns, heights, marks);
     let code = first.code;

@@ -6,6 +6,7 @@ use mathlib.Core.List.{List, [], _∷_, _++_, append-assoc, append-nil}
 use lib.IntN.{ℤ, pos, _*ℤ_}
 use lib.ListN.{length, getD, take, drop, set, length-append, length-drop, take-append-drop}
 use lib.Seq.{sets, sets-eq, take-at, take-length, drop-length, length-take-le, drop-append-add, drop-drop}
+use Rattle.surface.specs.Plot.{Plot}
 use Rattle.surface.specs.SurveyFile.{unsigned, bytesOf, countFor, filedHeights, fileOf}
 use Rattle.surface.proofs.SurveyFile.{length-bytesOf, length-filedHeights, filedHeights-take}
 
@@ -69,9 +70,9 @@ header rows columns n l next h r k e =
 
 -- the seven bytes and then the heights make the file
 pub whole :
-    (rows columns : ℕ) (hs : List ℤ) (l next last : List ℕ)
-    → next ≡ (1 ∷ bytesOf (countFor rows columns)) ++ rows ∷ columns ∷ drop 7 l
-    → last ≡ take 7 next ++ filedHeights hs
-    → last ≡ fileOf rows columns hs
+    (pl : Plot) (l next last : List ℕ)
+    → next ≡ (1 ∷ bytesOf (countFor pl.rows pl.columns)) ++ pl.rows ∷ pl.columns ∷ drop 7 l
+    → last ≡ take 7 next ++ filedHeights pl.heights
+    → last ≡ fileOf pl
 unfolding fileOf bytesOf
-whole rows columns hs l next last h e = rw (e, h)
+whole pl l next last h e = rw (e, h)

@@ -13,6 +13,7 @@ use writing::write_header;
 use writing::write_heights;
 use writing::write_verdict;
 ghost use mathlib.Core.Path.{_≡_};
+ghost use Rattle.surface.specs.Plot.{plot};
 ghost use Rattle.surface.specs.Calls.{readAnswer, readHeights, writeAnswer, writeFile};
 
 // Reads a file into the list. Refused: the list stays as it was.
@@ -41,8 +42,8 @@ pub fn read_survey(file: &[u8], heights: &mut [i32]) -> Size
 
 // Writes heights into a list of exactly the file's size. Refused: the list stays as it was.
 pub fn write_survey(rows: u32, columns: u32, heights: &[i32], file: &mut [u8]) -> Answer
-    ensures { λ r. ⌜ r ≡ writeAnswer rows columns (now (heights .entry)) (now (file .entry)) ⌝ }
-    ensures { λ _. ⌜ now (file .exit) ≡ writeFile rows columns (now (heights .entry)) (now (file .entry)) ⌝ }
+    ensures { λ r. ⌜ r ≡ writeAnswer (plot rows columns (now (heights .entry))) (now (file .entry)) ⌝ }
+    ensures { λ _. ⌜ now (file .exit) ≡ writeFile (plot rows columns (now (heights .entry))) (now (file .entry)) ⌝ }
 {
     let verdict = write_verdict(rows, columns, heights, file);
     let code = verdict.code;

@@ -10,14 +10,14 @@ ghost use mathlib.Core.List.{_∷_, _++_};
 ghost use Prim.Native.Nat.{_+_, _*_, _≤_};
 ghost use lib.ListN.{length, take, drop};
 ghost use Rattle.surface.specs.Lists.{firstNot};
-ghost use Rattle.surface.specs.Plot.{isSide, isHeight};
+ghost use Rattle.surface.specs.Plot.{plot, isSide, isHeight};
 ghost use Rattle.surface.specs.SurveyFile.{bytesOf, countFor, filedHeights};
 ghost use Rattle.surface.specs.Refusals.{writeVerdict};
 ghost use Rattle.surface.specs.Calls.{answer};
 
 // What writing returns: rows 1, 2, 3 and 4 of the table, in that order.
 pub(crate) fn write_verdict(rows: u32, columns: u32, heights: &[i32], file: &[u8]) -> Answer
-    ensures { λ r. ⌜ r ≡ answer (writeVerdict rows columns (now (heights .entry)) (now (file .entry))) ⌝ }
+    ensures { λ r. ⌜ r ≡ answer (writeVerdict (plot rows columns (now (heights .entry))) (now (file .entry))) ⌝ }
 {
     let code = sized(rows, columns, heights);
     if code != 0 {

@@ -1,6 +1,7 @@
 -- `parts::dales_and_hills` meets its contract: a refusal is handed on, and the ends of the paths that the next posts make are the names asked for.
 use mathlib.Core.Path.{_≡_, sym, _∙_, ap}
 use mathlib.Core.Bool.{true, false}
+use Rattle.surface.specs.Plot.{plot}
 use Rattle.surface.specs.Refusals.{partsVerdict}
 use Rattle.surface.specs.Calls.{partsAnswer}
 use Rattle.surface.specs.declared.Answer.{Answer}
@@ -17,11 +18,11 @@ start v = v .before .before .before .before .before
 
 code : (v : tie.After-verdict)
     → let a = start v .args in
-    v .verdict .result .code ≡ partsVerdict (a .rows) (a .columns) (a .heights .now) (a .dales .now) (a .hills .now) .code
+    v .verdict .result .code ≡ partsVerdict (plot (a .rows) (a .columns) (a .heights .now)) (a .dales .now) (a .hills .now) .code
 code v = ap (λ (r : Answer). r .code) (v .verdict .ensures .verdict)
 
 -- what an accepted call was lent
-lent : (e : tie.Else1) → let a = start (e .before) .args in Lent (a .rows) (a .columns) (a .heights .now) (a .dales .now) (a .hills .now)
+lent : (e : tie.Else1) → let a = start (e .before) .args in Lent (plot (a .rows) (a .columns) (a .heights .now)) (a .dales .now) (a .hills .now)
 lent e = e .before .verdict .ensures .lent (e .if1 .left)
 
 verdict-requires : tie.Need-verdict-requires
@@ -37,7 +38,7 @@ returns : tie.Need-returns
 unfolding partsAnswer
 returns c =
     let v = c .before in
-    let k = parts-kept _ _ _ _ _ (λ e. c .if1 .taken (code v ∙ e)) in
+    let k = parts-kept _ _ _ (λ e. c .if1 .taken (code v ∙ e)) in
     (v .verdict .ensures .verdict, (k .0, k .1))
 
 fill-nexts-requires : tie.Need-fill-nexts-requires
@@ -65,7 +66,7 @@ returns-2 c =
     let f = c .before .before .before .before .before .before .before .before .before .before .before .before in
     let e = f .before .before .before in
     let v = e .before in
-    let k = parts-filled _ _ _ _ _ (sym (code v) ∙ e .if1 .left) in
+    let k = parts-filled _ _ _ (sym (code v) ∙ e .if1 .left) in
     let fits = lent e .levelled .fits in (
       v .verdict .ensures .verdict,
       (

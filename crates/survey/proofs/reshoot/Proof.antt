@@ -7,7 +7,7 @@ use mir.Syntax.{w32}
 use mir.Val.{toZ, ofZ}
 use borrow.Author.Needs.{needs}
 use lib.ListN.{length, length-set}
-use Rattle.surface.specs.Plot.{isHeight}
+use Rattle.surface.specs.Plot.{plot, isHeight}
 use Rattle.surface.specs.Refusals.{Verdict, reshootVerdict}
 use Rattle.surface.specs.Calls.{answer, reshootAnswer}
 use Rattle.surface.specs.declared.Answer.{Answer}
@@ -25,7 +25,7 @@ held s = search needs
 abbrev first : tie.After-reshoot-verdict → Verdict
 first c =
     let a = c .before .before .before .before .args in
-    reshootVerdict (a .rows) (a .columns) (a .heights .now) (a .marks .now) (a .post) (a .height)
+    reshootVerdict (plot (a .rows) (a .columns) (a .heights .now)) (a .marks .now) (a .post) (a .height)
 
 said : (c : tie.After-reshoot-verdict) → c .reshoot-verdict .result ≡ answer (first c)
 said c = rw (held (c .before .before .before .before)) at (c .reshoot-verdict .ensures)
@@ -35,11 +35,11 @@ passed c = sym (ap (λ (a : Answer). a .code) (said (c .before))) ∙ c .if1 .le
 
 accepted : (c : tie.Else1)
     → let a = c .before .before .before .before .before .args in
-    Plotted (a .rows) (a .columns) (a .heights .now)
+    Plotted (plot (a .rows) (a .columns) (a .heights .now))
     × (length (a .marks .now) ≡ a .rows * a .columns)
     × (a .post < a .rows * a .columns)
     × (isHeight (a .height) ≡ true)
-accepted c = reshoot-plotted _ _ _ _ _ _ (passed c)
+accepted c = reshoot-plotted _ _ _ _ (passed c)
 
 reshoot-verdict-requires : tie.Need-reshoot-verdict-requires
 reshoot-verdict-requires c κs = search needs
@@ -54,7 +54,7 @@ returns : tie.Need-returns
 unfolding reshootAnswer
 returns c =
     let v = c .before in
-    let k = reshoot-kept _ _ _ _ _ _ (λ e. c .if1 .taken (ap (λ (a : Answer). a .code) (said v) ∙ e)) in
+    let k = reshoot-kept _ _ _ _ (λ e. c .if1 .taken (ap (λ (a : Answer). a .code) (said v) ∙ e)) in
     (said v, (sym (k .0), sym (k .1)))
 
 mul-height : tie.Need-mul-height
@@ -68,7 +68,7 @@ redraw-requires c κs =
     let e = c .before .before in
     let a = accepted e in
     let s = e .before .before .before .before .before in
-    let f = plotted-fits _ _ _ (a .0) in
+    let f = plotted-fits _ (a .0) in
     rw (held s) (
       record {
         rowsLow = f .rowsLow;
@@ -93,7 +93,7 @@ returns-2 c =
     let m = c .before .before in
     let e = m .before .before .before in
     let s = e .before .before .before .before .before in
-    let k = reshoot-filled _ _ _ _ _ _ (passed e) in
+    let k = reshoot-filled _ _ _ _ (passed e) in
     (said (e .before), (rw (held s) (sym (k .0)), rw (held s) at (m .redraw .ensures) ∙ sym (k .1)))
 
 pub reshoot-spec : {M : Type 1} → statement M

@@ -4,6 +4,7 @@ use mathlib.Core.Path.{_≡_, sym, _∙_, ap}
 use mathlib.Core.List.{List}
 use native.Mathlib.Omega.{arith}
 use lib.IntN.{ℤ}
+use Rattle.surface.specs.Plot as Surface
 use Rattle.surface.specs.Refusals.{writeVerdict}
 use Rattle.surface.specs.Calls.{writeAnswer}
 use Rattle.surface.specs.declared.Answer.{Answer}
@@ -22,7 +23,7 @@ abbrev F : tie.After-write-verdict → List ℕ
 F c = c .before .before .before .args .file .now
 
 abbrev code-of : tie.After-write-verdict → ℕ
-code-of c = writeVerdict (c .before .before .before .args .rows) (c .before .before .before .args .columns) (H c) (F c) .code
+code-of c = writeVerdict (Surface.plot (c .before .before .before .args .rows) (c .before .before .before .args .columns) (H c)) (F c) .code
 
 code : (c : tie.After-write-verdict) → c .write-verdict .result .code ≡ code-of c
 code c = ap (λ (a : Answer). a .code) (c .write-verdict .ensures)
@@ -30,8 +31,8 @@ code c = ap (λ (a : Answer). a .code) (c .write-verdict .ensures)
 accepted : (c : tie.Else1) → code-of (c .before) ≡ 0
 accepted c = sym (code (c .before)) ∙ c .if1 .left
 
-plot : (c : tie.Else1) → Writable (c .before .before .before .before .args .rows) (c .before .before .before .before .args .columns) (H (c .before)) (F (c .before))
-plot c = write-accepted _ _ (H (c .before)) (F (c .before)) (accepted c)
+plot : (c : tie.Else1) → Writable (Surface.plot (c .before .before .before .before .args .rows) (c .before .before .before .before .args .columns) (H (c .before))) (F (c .before))
+plot c = write-accepted _ (F (c .before)) (accepted c)
 
 write-verdict-requires : tie.Need-write-verdict-requires
 write-verdict-requires c κs = search needs
@@ -43,7 +44,7 @@ returns : tie.Need-returns
 unfolding writeAnswer
 returns c =
     let v = c .before in
-    (v .write-verdict .ensures, sym (write-kept _ _ (H v) (F v) (λ e. c .if1 .taken (code v ∙ e))))
+    (v .write-verdict .ensures, sym (write-kept _ (F v) (λ e. c .if1 .taken (code v ∙ e))))
 
 write-header-requires : tie.Need-write-header-requires
 write-header-requires c κs = (plot (c .before) .sides, omega (arith, plot (c .before) .room))
@@ -61,7 +62,7 @@ unfolding writeAnswer
 returns-2 c =
     let a = c .before .before .before .before .before .before .before .before in
     let v = a .before in
-    (v .write-verdict .ensures, whole _ _ (H v) (F v) _ _ (c .before .before .before .before .before .before .write-header .ensures) (c .before .before .write-heights .ensures) ∙ sym (write-filled _ _ (H v) (F v) (accepted a)))
+    (v .write-verdict .ensures, whole _ (F v) _ _ (c .before .before .before .before .before .before .write-header .ensures) (c .before .before .write-heights .ensures) ∙ sym (write-filled _ (F v) (accepted a)))
 
 pub write-survey-spec : {M : Type 1} → statement M
 write-survey-spec =

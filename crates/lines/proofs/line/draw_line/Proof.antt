@@ -5,6 +5,7 @@ use mathlib.Core.List.{List}
 use native.Mathlib.Omega.{arith}
 use borrow.Author.Tests.{ltb-true, ltb-false, not-true, not-false}
 use lib.ListN.{length}
+use Rattle.surface.specs.Plot.{plot}
 use Rattle.lines.specs.Directed.{walkOf}
 use Rattle.lines.proofs.Walking.{length-low}
 use Rattle.lines.proofs.Lined.{not-placed, not-started, short, too-long, drawn}
@@ -45,7 +46,7 @@ abbrev path : tie.Else2 → List ℕ
 path c =
     let s = c .before .before in
     let a = s .before .before .before .before .before .args in
-    walkOf (a .rows) (a .columns) (a .heights .now) (a .up) (s .start-of .result .post)
+    walkOf (plot (a .rows) (a .columns) (a .heights .now)) (a .up) (s .start-of .result .post)
 
 low : (c : tie.Else2) → length (path c) ≤ 14401
 low c =

@@ -5,6 +5,7 @@ use mathlib.Core.Path.{_≡_, refl, sym, _∙_, ap}
 use native.Mathlib.Omega.{arith}
 use lib.ListN.{length, set, length-set}
 use lib.Seq.{drop-set-lt}
+use Rattle.surface.specs.Plot.{plot}
 use Rattle.surface.specs.Lines.{end}
 use Rattle.surface.proofs.Order.{rank}
 use Rattle.surface.proofs.ListOf.{Filled, filled-more, filled-length}
@@ -20,9 +21,9 @@ use Rattle.lines.proofs.line.write_entries.Tie as tie
 abbrev Inv-loop : tie.InvT-loop
 Inv-loop heights rows columns p line₀ at₀ i₀ line at i =
     (1 ≤ i)
-    × Along rows columns heights at₀ at i
-    × (at .post ≡ entryOf rows columns heights (at₀ .up) p (at₀ .post) i)
-    × Filled (entryOf rows columns heights (at₀ .up) p (at₀ .post)) line₀ i line
+    × Along (plot rows columns heights) at₀ at i
+    × (at .post ≡ entryOf (plot rows columns heights) (at₀ .up) p (at₀ .post) i)
+    × Filled (entryOf (plot rows columns heights) (at₀ .up) p (at₀ .post)) line₀ i line
 
 abbrev μ-loop : tie.MeasureT-loop
 μ-loop heights rows columns p line₀ at₀ i₀ line at i = rank (toward heights (at₀ .up)) (rows * columns) (at .post)
@@ -46,7 +47,7 @@ loop-holds c =
 -- there is an entry to come
 more : (l : tie.At-loop Inv-loop μ-loop)
     → let a = l .before .before .args in
-    l .loop .i ≤ length (walkOf (a .rows) (a .columns) (a .heights .now) (a .from .up) (a .from .post))
+    l .loop .i ≤ length (walkOf (plot (a .rows) (a .columns) (a .heights .now)) (a .from .up) (a .from .post))
 more l = along-low (l .before .before .pre .0 .fits) (l .loop .inv .1)
 
 -- the list keeps its length
@@ -63,7 +64,7 @@ next-requires c κs = (c .before .before .pre .0, c .loop .inv .1 .vertex)
 -- the entry is written
 written : (l : tie.At-loop Inv-loop μ-loop)
     → let a = l .before .before .args in
-    Filled (entryOf (a .rows) (a .columns) (a .heights .now) (a .from .up) (a .p) (a .from .post)) (set (a .line .now) 0 (a .p)) (l .loop .i + 1)
+    Filled (entryOf (plot (a .rows) (a .columns) (a .heights .now)) (a .from .up) (a .p) (a .from .post)) (set (a .line .now) 0 (a .p)) (l .loop .i + 1)
     (set (l .loop .line) (l .loop .i) (l .loop .at .post))
 written l =
     filled-more _ _ (l .loop .i) (l .loop .line) _ (omega (arith, long l, more l, l .before .before .pre .3)) (l .loop .inv .3) (l .loop .inv .2)
@@ -72,7 +73,7 @@ written l =
 moved : (c : tie.Else1 Inv-loop μ-loop)
     → let l = c .before .before .before in
     let a = l .before .before .args in
-    nextOf (a .rows) (a .columns) (a .heights .now) (l .loop .at .up) (l .loop .at .post) ≡ l .loop .at .post → ⊥
+    nextOf (plot (a .rows) (a .columns) (a .heights .now)) (l .loop .at .up) (l .loop .at .post) ≡ l .loop .at .post → ⊥
 moved c e = c .if1 .left (ap (λ (w : Walk). w .post) (c .before .before .next .ensures) ∙ e)
 
 -- the walk's posts fit the list's entries, and the list has an entry for the next

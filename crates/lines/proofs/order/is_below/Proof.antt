@@ -3,7 +3,7 @@ use Prim.Native.Nat.{ℕ, _<_}
 use mathlib.Core.Path.{_≡_, sym, _∙_, ap}
 use mathlib.Core.Logic.{⊎-elim}
 use lib.ListN.{length}
-use Rattle.surface.specs.Plot.{virtualPit, below}
+use Rattle.surface.specs.Plot.{belowBy, virtualPit}
 use Rattle.surface.proofs.Order.{below-lex, pit-below, not-below-pit}
 use Rattle.surface.proofs.Walks.{Vertex}
 use Rattle.lines.proofs.order.is_below.Statement.{statement}
@@ -11,13 +11,13 @@ use Rattle.lines.proofs.order.is_below.Tie as tie
 
 returns : tie.Need-returns
 unfolding virtualPit
-returns c = let a = c .before .args in sym (ap (below (a .heights .now) (a .p)) (c .if1 .taken) ∙ not-below-pit (a .heights .now) (a .p))
+returns c = let a = c .before .args in sym (ap (belowBy (a .heights .now) (a .p)) (c .if1 .taken) ∙ not-below-pit (a .heights .now) (a .p))
 
 returns-2 : tie.Need-returns-2
 unfolding virtualPit
 returns-2 c =
     let a = c .before .before .args in
-    sym (ap (λ (p : ℕ). below (a .heights .now) p (a .q)) (c .if2 .taken) ∙ pit-below (a .heights .now) (a .q) (c .before .if1 .left))
+    sym (ap (λ (p : ℕ). belowBy (a .heights .now) p (a .q)) (c .if2 .taken) ∙ pit-below (a .heights .now) (a .q) (c .before .if1 .left))
 
 -- both are posts
 post : (n p : ℕ) → Vertex n p → (p ≡ 65535 → ⊥) → p < n

@@ -2,6 +2,7 @@
 use Prim.Native.Nat.{_<_}
 use native.Mathlib.Omega.{arith}
 use lib.ListN.{length}
+use Rattle.surface.specs.Plot.{plot}
 use Rattle.surface.specs.Marks.{ringOf, markAt}
 use Rattle.plot.specs.Scan.{toward}
 use Rattle.lines.specs.Runs.{StartsAt, Round}
@@ -22,7 +23,7 @@ ring-at-requires : tie.Need-ring-at-requires
 ring-at-requires c κs = search needs
 
 -- the post is a saddle, with its ring
-saddle : (c : tie.Else1) → let s = c .before .before in markAt (s .args .rows) (s .args .columns) (s .args .heights .now) (s .args .p) < 3 → ⊥
+saddle : (c : tie.Else1) → let s = c .before .before in markAt (plot (s .args .rows) (s .args .columns) (s .args .heights .now)) (s .args .p) < 3 → ⊥
 saddle c h = omega (arith, c .before .mark-at .ensures, c .if1 .left)
 
 ringed : (c : tie.After-ring-at) → let s = c .before .before .before in Round (s .args .heights .now) (s .args .up) (s .args .p) (c .ring-at .result)
@@ -33,12 +34,12 @@ ringed c =
 -- the place of its run
 found : (c : tie.After-run-at)
     → let s = c .before .before .before .before in
-    StartsAt (λ q. toward (s .args .heights .now) (s .args .up) q (s .args .p)) (ringOf (s .args .rows) (s .args .columns) (s .args .heights .now) (s .args .p)) (s .args .run) (c .run-at .result)
+    StartsAt (λ q. toward (s .args .heights .now) (s .args .up) q (s .args .p)) (ringOf (plot (s .args .rows) (s .args .columns) (s .args .heights .now)) (s .args .p)) (s .args .run) (c .run-at .result)
 found c = rw (c .before .ring-at .ensures .members) at (c .run-at .ensures)
 
 inside : (c : tie.Else2)
     → let s = c .before .before .before .before .before .before in
-    c .before .before .run-at .result < length (ringOf (s .args .rows) (s .args .columns) (s .args .heights .now) (s .args .p))
+    c .before .before .run-at .result < length (ringOf (plot (s .args .rows) (s .args .columns) (s .args .heights .now)) (s .args .p))
 inside c = omega (arith, c .before .before .before .ring-at .ensures .len, c .if2 .left)
 
 run-at-requires : tie.Need-run-at-requires

@@ -3,6 +3,7 @@
 use Prim.Native.Nat.{_*_}
 use mathlib.Core.Path.{_≡_, sym, _∙_, ap}
 use native.Mathlib.Omega.{arith}
+use Rattle.surface.specs.Plot.{plot}
 use Rattle.surface.proofs.Order.{rank}
 use Rattle.plot.specs.Scan.{toward}
 use Rattle.lines.specs.declared.walk.Walk.{Walk}
@@ -12,7 +13,7 @@ use Rattle.lines.proofs.walk.entries_of.Statement.{statement}
 use Rattle.lines.proofs.walk.entries_of.Tie as tie
 
 abbrev Inv-loop : tie.InvT-loop
-Inv-loop heights rows columns at₀ entries₀ at entries = Along rows columns heights at₀ at entries
+Inv-loop heights rows columns at₀ entries₀ at entries = Along (plot rows columns heights) at₀ at entries
 
 abbrev μ-loop : tie.MeasureT-loop
 μ-loop heights rows columns at₀ entries₀ at entries = rank (toward heights (at₀ .up)) (rows * columns) (at .post)
@@ -26,7 +27,7 @@ next-requires c κs = (c .before .pre .0, c .loop .inv .vertex)
 -- the step went to another post
 moved : (c : tie.Else1 Inv-loop μ-loop)
     → let l = c .before .before .before in
-    nextOf (l .before .args .rows) (l .before .args .columns) (l .before .args .heights .now) (l .loop .at .up) (l .loop .at .post) ≡ l .loop .at .post → ⊥
+    nextOf (plot (l .before .args .rows) (l .before .args .columns) (l .before .args .heights .now)) (l .loop .at .up) (l .loop .at .post) ≡ l .loop .at .post → ⊥
 moved c e = c .if1 .left (ap (λ (w : Walk). w .post) (c .before .before .next .ensures) ∙ e)
 
 add-entries : tie.Need-add-entries Inv-loop μ-loop

@@ -1,6 +1,7 @@
 -- `listing::posts::put_post` meets its contract: the mark tells a saddle, whose water lines come before its crest lines.
 use Prim.Native.Nat.{_<_}
 use native.Mathlib.Omega.{arith}
+use Rattle.surface.specs.Plot.{plot}
 use Rattle.surface.specs.Marks.{markAt}
 use Rattle.listing.proofs.Chunks.{downward, upward, no-saddle, both}
 use borrow.Author.Needs.{needs}
@@ -13,10 +14,10 @@ mark-at-requires c κs = search needs
 returns : tie.Need-returns
 returns c =
     let s = c .before .before .before .before .before in
-    no-saddle (s .args .rows) (s .args .columns) (s .args .heights .now) (s .args .p) (s .args .out .now) (s .args .at) (omega (arith, c .before .mark-at .ensures, c .if1 .taken))
+    no-saddle (plot (s .args .rows) (s .args .columns) (s .args .heights .now)) (s .args .p) (s .args .out .now) (s .args .at) (omega (arith, c .before .mark-at .ensures, c .if1 .taken))
 
 -- the post is a saddle
-saddle : (c : tie.Else1) → let a = c .before .before .before .before .before .args in markAt (a .rows) (a .columns) (a .heights .now) (a .p) < 3 → ⊥
+saddle : (c : tie.Else1) → let a = c .before .before .before .before .before .args in markAt (plot (a .rows) (a .columns) (a .heights .now)) (a .p) < 3 → ⊥
 saddle c h = omega (arith, c .before .mark-at .ensures, c .if1 .left)
 
 ring-at-requires : tie.Need-ring-at-requires
@@ -46,7 +47,7 @@ returns-2 c =
     let w = v .before .before .before .before in
     let r = w .before .before in
     let s = r .before .before .before .before .before .before in
-    both (s .args .rows) (s .args .columns) (s .args .heights .now) (s .args .p) (saddle (r .before)) (w .put-runs .ensures) (v .put-runs2 .ensures)
+    both (plot (s .args .rows) (s .args .columns) (s .args .heights .now)) (s .args .p) (saddle (r .before)) (w .put-runs .ensures) (v .put-runs2 .ensures)
 
 pub put-post-spec : {M : Type 1} → statement M
 put-post-spec =

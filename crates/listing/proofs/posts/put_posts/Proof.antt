@@ -5,6 +5,7 @@ use mathlib.Core.Path.{_≡_, refl}
 use borrow.Author.Tests.{ltb-true, leb-true}
 use lib.Dec.{ltb, leb}
 use lib.ListN.{length}
+use Rattle.surface.specs.Plot.{plot}
 use Rattle.surface.proofs.Bools.{and-left, and-right}
 use Rattle.plot.proofs.Round.{few}
 use Rattle.listing.proofs.Chunks.{Going, going-none, going-more, going-end}
@@ -13,7 +14,7 @@ use Rattle.listing.proofs.posts.put_posts.Tie as tie
 
 abbrev Inv-loop : tie.InvT-loop
 Inv-loop heights rows columns dales hills from out₀ posts last post₀ bytes₀ out post bytes =
-    (posts ≡ rows * columns) × (last + 960 ≡ length out₀) × (post ≤ rows * columns) × Going rows columns heights from out₀ out last post bytes
+    (posts ≡ rows * columns) × (last + 960 ≡ length out₀) × (post ≤ rows * columns) × Going (plot rows columns heights) from out₀ out last post bytes
 
 abbrev μ-loop : tie.MeasureT-loop
 μ-loop heights rows columns dales hills from out₀ posts last post₀ bytes₀ out post bytes = posts - post
@@ -50,7 +51,7 @@ loop-holds c =
       refl,
       omega (arith, s .pre .2),
       s .pre .1,
-      going-none (s .args .rows) (s .args .columns) (s .args .heights .now) (s .args .from) (s .args .out .now) _,
+      going-none (plot (s .args .rows) (s .args .columns) (s .args .heights .now)) (s .args .from) (s .args .out .now) _,
     )
 
 put-post-requires : tie.Need-put-post-requires Inv-loop μ-loop
@@ -73,7 +74,7 @@ loop-again c =
       l .loop .inv .0,
       l .loop .inv .1,
       omega (arith, left t),
-      going-more (a .rows) (a .columns) (a .heights .now) (a .from) (l .loop .inv .3) (room t) (w .put-post .ensures) (omega (arith, w .put-post .kept)),
+      going-more (plot (a .rows) (a .columns) (a .heights .now)) (a .from) (l .loop .inv .3) (room t) (w .put-post .ensures) (omega (arith, w .put-post .kept)),
     )
 
 same-length : tie.Need-same-length Inv-loop μ-loop
@@ -83,7 +84,7 @@ returns : tie.Need-returns Inv-loop μ-loop
 returns c =
     let l = c .before in
     let a = A l .args in
-    going-end (a .rows) (a .columns) (a .heights .now) (a .from) (l .loop .inv .3) (l .loop .inv .1) (l .loop .inv .2) (c .loop-test .left)
+    going-end (plot (a .rows) (a .columns) (a .heights .now)) (a .from) (l .loop .inv .3) (l .loop .inv .1) (l .loop .inv .2) (c .loop-test .left)
 
 pub put-posts-spec : {M : Type 1} → statement M
 put-posts-spec =

@@ -3,6 +3,7 @@ use Prim.Native.Nat.{_-_, _*_, _≤_, _<_}
 use native.Mathlib.Omega.{arith}
 use mathlib.Core.Path.{_≡_, refl}
 use lib.ListN.{length}
+use Rattle.surface.specs.Plot.{plot}
 use Rattle.plot.proofs.Round.{few}
 use Rattle.lines.specs.Directed.{runsOf}
 use Rattle.listing.specs.Wrote.{Wrote}
@@ -15,8 +16,8 @@ use Rattle.listing.proofs.posts.put_runs.Tie as tie
 abbrev Inv-loop : tie.InvT-loop
 Inv-loop heights rows columns up letter p ring ends out₀ at len next₀ run₀ out next run =
     (len ≡ ring .len)
-    × (run ≤ length (runsOf rows columns heights up p))
-    × Wrote (60 * run) out₀ out at (runLines rows columns heights up letter p run) next
+    × (run ≤ length (runsOf (plot rows columns heights) up p))
+    × Wrote (60 * run) out₀ out at (runLines (plot rows columns heights) up letter p run) next
     × (length out ≡ length out₀)
 
 abbrev μ-loop : tie.MeasureT-loop
@@ -28,7 +29,7 @@ A l = l .before .before .before
 
 asked : (l : tie.At-loop Inv-loop μ-loop)
     → let a = A l .args in
-    Saddle (a .rows) (a .columns) (a .heights .now) (a .up) (a .p) (a .ring) (a .ends .now)
+    Saddle (plot (a .rows) (a .columns) (a .heights .now)) (a .up) (a .p) (a .ring) (a .ends .now)
 asked l = A l .pre .0
 
 -- a run that is there
@@ -43,7 +44,7 @@ there c =
 loop-holds : tie.Need-loop-holds Inv-loop μ-loop
 loop-holds c =
     let a = c .before .before .args in
-    (refl, omega arith, no-lines (a .rows) (a .columns) (a .heights .now) (a .up) (a .letter) (a .p) (a .out .now) (a .at), refl)
+    (refl, omega arith, no-lines (plot (a .rows) (a .columns) (a .heights .now)) (a .up) (a .letter) (a .p) (a .out .now) (a .at), refl)
 
 run-at-requires : tie.Need-run-at-requires Inv-loop μ-loop
 run-at-requires c κs = rounded (asked c)
@@ -96,7 +97,7 @@ returns c =
     let r = c .before in
     let l = r .before in
     let a = A l .args in
-    let n : l .loop .run ≡ length (runsOf (a .rows) (a .columns) (a .heights .now) (a .up) (a .p)) =
+    let n : l .loop .run ≡ length (runsOf (plot (a .rows) (a .columns) (a .heights .now)) (a .up) (a .p)) =
     omega (arith, none (asked l) (l .loop .run) (r .run-at .result) (r .run-at .ensures) (omega (arith, c .if1 .taken, l .loop .inv .0)), l .loop .inv .1) in
     rw (← n) (within (omega (arith, few-runs (asked l))) (l .loop .inv .2))
 

@@ -3,6 +3,7 @@ use Prim.Native.Nat.{_+_, _-_, _≤_}
 use native.Mathlib.Omega.{arith}
 use mathlib.Core.Path.{_≡_, refl, _∙_}
 use lib.ListN.{length, length-set}
+use Rattle.surface.specs.Plot.{plot}
 use Rattle.plot.specs.Scan.{nextBy}
 use Rattle.plot.specs.Stores.{stores}
 use Rattle.plot.proofs.Stores.{store-next}
@@ -11,7 +12,7 @@ use Rattle.parts.proofs.fill.next_each.Statement.{statement}
 use Rattle.parts.proofs.fill.next_each.Tie as tie
 
 abbrev Inv-loop : tie.InvT-loop
-Inv-loop heights rows columns from n up list₀ i₀ list i = (i ≤ n) × (length list ≡ length list₀) × (list ≡ stores (nextBy up rows columns heights) from i list₀)
+Inv-loop heights rows columns from n up list₀ i₀ list i = (i ≤ n) × (length list ≡ length list₀) × (list ≡ stores (nextBy up (plot rows columns heights)) from i list₀)
 
 abbrev μ-loop : tie.MeasureT-loop
 μ-loop heights rows columns from n up list₀ i₀ list i = n - i

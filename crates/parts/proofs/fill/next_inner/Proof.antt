@@ -4,6 +4,7 @@ use native.Mathlib.Omega.{arith}
 use mathlib.Core.Path.{_≡_, refl, _∙_}
 use mathlib.Core.Bool.{true, false}
 use lib.ListN.{length, length-set}
+use Rattle.surface.specs.Plot.{plot}
 use Rattle.surface.specs.Edges.{isBorder}
 use Rattle.plot.specs.Fits.{Levelled}
 use Rattle.plot.specs.Scan.{nextBy}
@@ -20,8 +21,8 @@ Inv-loop heights rows columns base down₀ up₀ c₀ down up c =
     × (c + 1 ≤ columns)
     × (length down ≡ length down₀)
     × (length up ≡ length up₀)
-    × (down ≡ stores (nextBy false rows columns heights) (base + 1) (c - 1) down₀)
-    × (up ≡ stores (nextBy true rows columns heights) (base + 1) (c - 1) up₀)
+    × (down ≡ stores (nextBy false (plot rows columns heights)) (base + 1) (c - 1) down₀)
+    × (up ≡ stores (nextBy true (plot rows columns heights)) (base + 1) (c - 1) up₀)
 
 abbrev μ-loop : tie.MeasureT-loop
 μ-loop heights rows columns base down₀ up₀ c₀ down up c = columns - c
@@ -33,7 +34,7 @@ start l = l .before .before .before
 inside : (i : tie.In-loop Inv-loop μ-loop)
     → let a = start (i .before) .args in
     let p = a .base + i .before .loop .c in
-    Levelled (a .rows) (a .columns) (a .heights .now) × (p < a .rows * a .columns) × (isBorder (a .rows) (a .columns) p ≡ false)
+    Levelled (plot (a .rows) (a .columns) (a .heights .now)) × (p < a .rows * a .columns) × (isBorder (a .rows) (a .columns) p ≡ false)
 inside i =
     let s = start (i .before) in
     (s .pre .0, omega arith, between-border (s .pre .0 .fits) (s .pre .1) (i .before .loop .c) (omega arith) (omega arith))

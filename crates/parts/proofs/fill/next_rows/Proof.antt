@@ -5,6 +5,7 @@ use native.Mathlib.Nat.{one-mul, add-mul}
 use mathlib.Core.Path.{_≡_, refl, _∙_, ap}
 use mathlib.Core.Bool.{true, false}
 use lib.ListN.{length}
+use Rattle.surface.specs.Plot.{plot}
 use Rattle.plot.specs.Scan.{nextBy}
 use Rattle.plot.specs.Stores.{stores}
 use Rattle.plot.specs.Rows.{Between}
@@ -19,8 +20,8 @@ Inv-loop heights rows columns down₀ up₀ r₀ down up r =
     × (r + 1 ≤ rows)
     × (length down ≡ length down₀)
     × (length up ≡ length up₀)
-    × (down ≡ stores (nextBy false rows columns heights) columns (r * columns - columns) down₀)
-    × (up ≡ stores (nextBy true rows columns heights) columns (r * columns - columns) up₀)
+    × (down ≡ stores (nextBy false (plot rows columns heights)) columns (r * columns - columns) down₀)
+    × (up ≡ stores (nextBy true (plot rows columns heights)) columns (r * columns - columns) up₀)
 
 abbrev μ-loop : tie.MeasureT-loop
 μ-loop heights rows columns down₀ up₀ r₀ down up r = rows - r

@@ -16,38 +16,38 @@ abbrev μ-loop : tie.MeasureT-loop
 μ-loop list₀ p end stop e₀ list e = stepsIn list₀ e
 
 -- a turn's post is not its end
-below : (c : tie.In-loop Inv-loop μ-loop) → Under (c .before .loop .inv .0) (c .before .loop .e)
-below c = under (c .before .loop .inv .0) (c .before .loop .e) (λ h. c .loop-test .taken (h ∙ c .before .loop .inv .1))
+belowBy : (c : tie.In-loop Inv-loop μ-loop) → Under (c .before .loop .inv .0) (c .before .loop .e)
+belowBy c = under (c .before .loop .inv .0) (c .before .loop .e) (λ h. c .loop-test .taken (h ∙ c .before .loop .inv .1))
 
 loop-holds : tie.Need-loop-holds Inv-loop μ-loop
 loop-holds c = (shorter-none _, sym (c .pre .2), inl refl)
 
 mul-next : tie.Need-mul-next Inv-loop μ-loop
-mul-next c = omega (arith, below c .inside)
+mul-next c = omega (arith, belowBy c .inside)
 
 slice-read-next : tie.Need-slice-read-next Inv-loop μ-loop
-slice-read-next c = omega (arith, below (c .before) .inside, c .before .before .loop .inv .0 .size)
+slice-read-next c = omega (arith, belowBy (c .before) .inside, c .before .before .loop .inv .0 .size)
 
 cast-next : tie.Need-cast-next Inv-loop μ-loop
 cast-next c = omega (arith, c .slice-known .given (c .before .before .loop .e))
 
 mul-list : tie.Need-mul-list Inv-loop μ-loop
-mul-list c = omega (arith, below (c .before) .inside)
+mul-list c = omega (arith, belowBy (c .before) .inside)
 
 slice-write-list : tie.Need-slice-write-list Inv-loop μ-loop
-slice-write-list c = omega (arith, below (c .before) .inside, c .before .before .loop .inv .0 .size)
+slice-write-list c = omega (arith, belowBy (c .before) .inside, c .before .before .loop .inv .0 .size)
 
 loop-less : tie.Need-loop-less Inv-loop μ-loop
 loop-less c =
     let l = c .before .before in
-    read-nearer (l .loop .inv .0) (l .loop .e) (l .before .pre .0) (below (c .before))
+    read-nearer (l .loop .inv .0) (l .loop .e) (l .before .pre .0) (belowBy (c .before))
 
 loop-again : tie.Need-loop-again Inv-loop μ-loop
 loop-again c =
     let l = c .before .before in
     let ends = l .before .pre .0 in
     let i = l .loop .inv in
-    let h = below (c .before) .inside in (
+    let h = belowBy (c .before) .inside in (
       store-end (i .0) (l .loop .e) ends h (l .before .args .end) (i .1),
       read-end (i .0) (l .loop .e) ends h ∙ i .1,
       inr (stored (l .loop .list) (l .loop .e) (l .before .args .p) (l .before .args .end) (omega (arith, i .0 .size)) (i .2)),

@@ -17,7 +17,7 @@ is-plot-requires : tie.Need-is-plot-requires
 is-plot-requires c κs = search needs
 
 returns : tie.Need-returns
-returns c = sized-1 _ _ _ (sym (c .before .is-plot .ensures) ∙ not-true _ (c .if1 .taken))
+returns c = sized-1 _ (sym (c .before .is-plot .ensures) ∙ not-true _ (c .if1 .taken))
 
 mul-if2 : tie.Need-mul-if2
 mul-if2 c = omega (arith, posts-low (c .before .before .args .rows) (c .before .before .args .columns) (plot c))
@@ -26,10 +26,10 @@ cast-if2 : tie.Need-cast-if2
 cast-if2 c = omega (arith, posts-low (c .before .before .args .rows) (c .before .before .args .columns) (plot c))
 
 returns-2 : tie.Need-returns-2
-returns-2 c = sized-2 _ _ _ (plot (c .before)) (c .if2 .taken)
+returns-2 c = sized-2 _ (plot (c .before)) (c .if2 .taken)
 
 returns-3 : tie.Need-returns-3
-returns-3 c = sized-0 _ _ _ (plot (c .before)) (c .if2 .left)
+returns-3 c = sized-0 _ (plot (c .before)) (c .if2 .left)
 
 pub sized-spec : {M : Type 1} → statement M
 sized-spec = tie.close (tie.spec is-plot-requires returns mul-if2 cast-if2 returns-2 returns-3)

@@ -2,6 +2,7 @@
 use native.Mathlib.Omega.{arith}
 use mathlib.Core.Path.{_∙_}
 use mathlib.Core.Bool.{true, false}
+use Rattle.surface.specs.Plot.{plot}
 use Rattle.plot.specs.Scan.{nextBy}
 use Rattle.plot.proofs.Round.{few}
 use Rattle.plot.proofs.Block.{room-inside}
@@ -11,7 +12,7 @@ use Rattle.plot.proofs.next.next_inside.Tie as tie
 
 told-up : (c : tie.After-lowest-in)
     → let a = c .before .before .before .before .args in
-    Tells (a .heights .now) (a .columns) (a .p) (c .lowest-in .result) (nextBy true (a .rows) (a .columns) (a .heights .now) (a .p))
+    Tells (a .heights .now) (a .columns) (a .p) (c .lowest-in .result) (nextBy true (plot (a .rows) (a .columns) (a .heights .now)) (a .p))
 told-up c =
     let start = c .before .before .before .before in
     up-inside-told (start .pre .0) (start .args .p) (start .pre .1) (start .pre .2) _
@@ -19,7 +20,7 @@ told-up c =
 
 told-down : (c : tie.After-lowest-in2)
     → let a = c .before .before .before .args in
-    Tells (a .heights .now) (a .columns) (a .p) (c .lowest-in2 .result) (nextBy false (a .rows) (a .columns) (a .heights .now) (a .p))
+    Tells (a .heights .now) (a .columns) (a .p) (c .lowest-in2 .result) (nextBy false (plot (a .rows) (a .columns) (a .heights .now)) (a .p))
 told-down c =
     let start = c .before .before .before in
     down-told (start .pre .0) (start .args .p) (start .pre .1) (start .pre .2) _ (rw (c .before .before .block-inside .ensures .0) at (c .lowest-in2 .ensures))

@@ -2,6 +2,7 @@
 use native.Mathlib.Omega.{arith}
 use mathlib.Core.Path.{_∙_}
 use mathlib.Core.Bool.{true}
+use Rattle.surface.specs.Plot.{plot}
 use Rattle.plot.specs.Scan.{nextBy}
 use Rattle.plot.proofs.Round.{few}
 use Rattle.plot.proofs.Block.{room-cells}
@@ -11,7 +12,7 @@ use Rattle.plot.proofs.next.next_up_anywhere.Tie as tie
 
 told : (c : tie.After-lowest-in)
     → let a = c .before .before .before .before .args in
-    Tells (a .heights .now) (a .columns) (a .p) (c .lowest-in .result) (nextBy true (a .rows) (a .columns) (a .heights .now) (a .p))
+    Tells (a .heights .now) (a .columns) (a .p) (c .lowest-in .result) (nextBy true (plot (a .rows) (a .columns) (a .heights .now)) (a .p))
 told c =
     let start = c .before .before .before .before in
     up-told (start .pre .0) (start .args .p) (start .pre .1) _

@@ -4,7 +4,7 @@ use native.Mathlib.Omega.{arith}
 use mathlib.Core.Path.{_≡_, refl, _∙_}
 use mathlib.Core.Bool.{false}
 use lib.ListN.{length, getD, length-set}
-use Rattle.surface.specs.Plot.{below}
+use Rattle.surface.specs.Plot.{belowBy}
 use Rattle.surface.specs.Edges.{throughLowest}
 use Rattle.plot.proofs.Stores.{told-more}
 use Rattle.plot.proofs.row.falls_row.Statement.{statement}
@@ -14,7 +14,7 @@ abbrev Inv-loop : tie.InvT-loop
 Inv-loop heights columns base falls₀ c₀ falls c =
     (c + 1 ≤ columns)
     × (length falls ≡ length falls₀)
-    × ((k : ℕ) → k < c → getD falls k false ≡ throughLowest (below heights) columns (base + k))
+    × ((k : ℕ) → k < c → getD falls k false ≡ throughLowest (belowBy heights) columns (base + k))
 
 abbrev μ-loop : tie.MeasureT-loop
 μ-loop heights columns base falls₀ c₀ falls c = columns - c

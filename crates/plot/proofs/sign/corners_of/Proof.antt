@@ -1,8 +1,8 @@
 -- The cells that are there have their four posts in the plot; then the truth table of a corner.
 use Prim.Native.Nat.{_+_, _-_}
 use mathlib.Core.Path.{_≡_}
-use Rattle.surface.specs.Plot.{below}
-use Rattle.surface.specs.Edges.{top, bottom, first, last, throughLowest}
+use Rattle.surface.specs.Plot.{belowBy}
+use Rattle.surface.specs.Edges.{throughLowest, top, bottom, first, last}
 use native.Mathlib.Omega.{arith}
 use Rattle.plot.proofs.Round.{few, cell-ne, cell-se, cell-sw, cell-nw, joined-by}
 use borrow.Author.Needs.{needs}
@@ -42,7 +42,7 @@ returns c =
     let a = start .args in
     let se : a .p - 0 ≡ a .p = omega arith in
     let nw : a .p - (a .columns + 1) ≡ a .p - a .columns - 1 = omega arith in
-    let falls = throughLowest (below (a .heights .now)) (a .columns) in
+    let falls = throughLowest (belowBy (a .heights .now)) (a .columns) in
     rw (
       c .falls-back4 .ensures,
       c .before .falls-back3 .ensures,

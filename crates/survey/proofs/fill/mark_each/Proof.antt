@@ -3,6 +3,7 @@ use Prim.Native.Nat.{_+_, _-_, _≤_}
 use native.Mathlib.Omega.{arith}
 use mathlib.Core.Path.{_≡_, refl, _∙_}
 use lib.ListN.{length, length-set}
+use Rattle.surface.specs.Plot.{plot}
 use Rattle.surface.specs.Marks.{markAt}
 use Rattle.plot.specs.Stores.{stores}
 use Rattle.plot.proofs.Stores.{store-next}
@@ -10,7 +11,7 @@ use Rattle.survey.proofs.fill.mark_each.Statement.{statement}
 use Rattle.survey.proofs.fill.mark_each.Tie as tie
 
 abbrev Inv-loop : tie.InvT-loop
-Inv-loop heights rows columns from n marks₀ i₀ marks i = (i ≤ n) × (length marks ≡ length marks₀) × (marks ≡ stores (markAt rows columns heights) from i marks₀)
+Inv-loop heights rows columns from n marks₀ i₀ marks i = (i ≤ n) × (length marks ≡ length marks₀) × (marks ≡ stores (markAt (plot rows columns heights)) from i marks₀)
 
 abbrev μ-loop : tie.MeasureT-loop
 μ-loop heights rows columns from n marks₀ i₀ marks i = n - i

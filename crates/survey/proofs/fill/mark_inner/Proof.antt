@@ -3,6 +3,7 @@ use Prim.Native.Nat.{_+_, _-_, _≤_}
 use native.Mathlib.Omega.{arith}
 use mathlib.Core.Path.{_≡_, refl, _∙_}
 use lib.ListN.{length, length-set}
+use Rattle.surface.specs.Plot.{plot}
 use Rattle.surface.specs.Marks.{markAt}
 use Rattle.plot.specs.Stores.{stores}
 use Rattle.plot.proofs.Stores.{store-next}
@@ -11,7 +12,7 @@ use Rattle.survey.proofs.fill.mark_inner.Statement.{statement}
 use Rattle.survey.proofs.fill.mark_inner.Tie as tie
 
 abbrev Inv-loop : tie.InvT-loop
-Inv-loop heights rows columns base above here marks₀ c₀ marks c = (1 ≤ c) × (c + 1 ≤ columns) × (length marks ≡ length marks₀) × (marks ≡ stores (markAt rows columns heights) (base + 1) (c - 1) marks₀)
+Inv-loop heights rows columns base above here marks₀ c₀ marks c = (1 ≤ c) × (c + 1 ≤ columns) × (length marks ≡ length marks₀) × (marks ≡ stores (markAt (plot rows columns heights)) (base + 1) (c - 1) marks₀)
 
 abbrev μ-loop : tie.MeasureT-loop
 μ-loop heights rows columns base above here marks₀ c₀ marks c = columns - c

@@ -3,6 +3,7 @@ use Prim.Native.Nat.{_-_, _*_}
 use native.Mathlib.Omega.{arith}
 use mathlib.Core.Path.{_∙_}
 use borrow.Author.Needs.{needs}
+use Rattle.surface.specs.Plot.{plot}
 use Rattle.surface.specs.Marks.{markAt, marksOf}
 use Rattle.plot.proofs.Stores.{stores-join, stores-all}
 use Rattle.plot.proofs.Rows.{fits-two}
@@ -44,7 +45,7 @@ returns c =
     let a = s .args in
     let n = a .rows * a .columns in
     let k = a .columns in
-    let f = markAt (a .rows) k (a .heights .now) in
+    let f = markAt (plot (a .rows) k (a .heights .now)) in
     let w = fits-two (s .pre .0) in
     stores-join f 0 (n - k) (n - k) k n (a .marks .now) _ _
     (stores-join f 0 k k (n - k - k) (n - k) (a .marks .now) _ _ (e .mark-each .ensures) (m .mark-rows .ensures) (omega arith) (omega arith))

@@ -3,6 +3,7 @@ use Prim.Native.Nat.{_+_, _-_}
 use native.Mathlib.Omega.{arith}
 use mathlib.Core.Path.{refl}
 use borrow.Author.Needs.{needs}
+use Rattle.surface.specs.Plot.{plot}
 use Rattle.surface.specs.Marks.{markAt}
 use Rattle.plot.proofs.Stores.{stores-join}
 use Rattle.survey.proofs.fill.mark_row.Statement.{statement}
@@ -33,7 +34,7 @@ returns c =
     let e = i .before .before .before .before in
     let a = e .before .before .before .before .before .args in
     let w = e .before .before .before .before .before .pre .0 .fits .columnsLow in
-    let f = markAt (a .rows) (a .columns) (a .heights .now) in
+    let f = markAt (plot (a .rows) (a .columns) (a .heights .now)) in
     stores-join f (a .base) (1 + (a .columns - 2)) (a .base + (a .columns - 1)) 1 (a .columns) (a .marks .now) _ _
     (stores-join f (a .base) 1 (a .base + 1) (a .columns - 2) (1 + (a .columns - 2)) (a .marks .now) _ _ (e .mark-each .ensures) (i .mark-inner .ensures) refl refl)
     (m .mark-each2 .ensures)

@@ -5,6 +5,7 @@ use mathlib.Core.Path.{_≡_, refl, _∙_, ap}
 use borrow.Author.Needs.{needs}
 use lib.ListN.{length}
 use native.Mathlib.Nat.{one-mul, add-mul}
+use Rattle.surface.specs.Plot.{plot}
 use Rattle.surface.specs.Marks.{markAt}
 use Rattle.plot.specs.Fits.{Fits}
 use Rattle.plot.specs.Stores.{stores}
@@ -23,13 +24,13 @@ Inv-loop heights rows columns marks₀ above₀ here₀ r₀ marks above here r 
     × (length above ≡ 120)
     × (length here ≡ 120)
     × Falls heights columns (r * columns - columns) above
-    × (marks ≡ stores (markAt rows columns heights) columns (r * columns - columns) marks₀)
+    × (marks ≡ stores (markAt (plot rows columns heights)) columns (r * columns - columns) marks₀)
 
 abbrev μ-loop : tie.MeasureT-loop
 μ-loop heights rows columns marks₀ above₀ here₀ r₀ marks above here r = rows - r
 
 -- the fit of the plot, and the room of row r, at the loop's head
-fits : (l : tie.At-loop Inv-loop μ-loop) → Fits (l .before .before .before .before .before .args .rows) (l .before .before .before .before .before .args .columns) (l .before .before .before .before .before .args .heights .now)
+fits : (l : tie.At-loop Inv-loop μ-loop) → Fits (plot (l .before .before .before .before .before .args .rows) (l .before .before .before .before .before .args .columns) (l .before .before .before .before .before .args .heights .now))
 fits l = l .before .before .before .before .before .pre .0
 
 room : (l : tie.In-loop Inv-loop μ-loop)

@@ -4,6 +4,7 @@ use native.Mathlib.Omega.{arith}
 use native.Mathlib.Nat.{mul-le-mul-right, add-mul, one-mul}
 use mathlib.Core.Path.{_≡_, _∙_}
 use borrow.Author.Needs.{needs}
+use Rattle.surface.specs.Plot.{plot}
 use Rattle.surface.specs.Marks.{markAt}
 use Rattle.surface.specs.Plot as Plot
 use Rattle.surface.proofs.Grid.{column-lt, row-lt}
@@ -13,7 +14,7 @@ use Rattle.survey.proofs.redraw.redraw.Statement.{statement}
 use Rattle.survey.proofs.redraw.redraw.Tie as tie
 
 abbrev Inv-loop : tie.InvT-loop
-Inv-loop heights rows columns post marks₀ row column from width end r₀ marks r = (r₀ ≤ r) × (r ≤ end) × Painted columns (markAt rows columns heights) from (from + width) r₀ r marks₀ marks
+Inv-loop heights rows columns post marks₀ row column from width end r₀ marks r = (r₀ ≤ r) × (r ≤ end) × Painted columns (markAt (plot rows columns heights)) from (from + width) r₀ r marks₀ marks
 
 abbrev μ-loop : tie.MeasureT-loop
 μ-loop heights rows columns post marks₀ row column from width end r₀ marks r = end - r
@@ -92,7 +93,7 @@ loop-again c =
       omega arith,
       rw (m .mark-each .ensures)
           (rw e at
-          (painted-more (fits-sides (s .pre .0)) (markAt (s .args .rows) (s .args .columns) (s .args .heights .now)) (b .result) (b .result + w) (l .before .before3 .result) (l .loop .r) (s .args .marks .now) (l .loop .marks)
+          (painted-more (fits-sides (s .pre .0)) (markAt (plot (s .args .rows) (s .args .columns) (s .args .heights .now))) (b .result) (b .result + w) (l .before .before3 .result) (l .loop .r) (s .args .marks .now) (l .loop .marks)
           (omega arith)
           (omega (arith, inColumn s))
           (l .loop .inv .0)
@@ -113,7 +114,7 @@ returns c =
     let b = l .before .before3 in
     let u : f .result + (e .result - f .result) ≡ min (Plot.column (s .args .columns) (s .args .post) + 2) (s .args .columns) = omega (arith, inColumn s) in
     let v : l .loop .r ≡ min (Plot.row (s .args .columns) (s .args .post) + 2) (s .args .rows) = omega arith in
-    painted-redrawn (fits-sides (s .pre .0)) (s .args .heights .now) (s .args .post) (s .args .marks .now) (l .loop .marks) (s .pre .1)
+    painted-redrawn _ (fits-sides (s .pre .0)) (s .args .post) (s .args .marks .now) (l .loop .marks) (s .pre .1)
     (rw (u, v, f .ensures, b .ensures) at (l .loop .inv .2))
 
 pub redraw-spec : {M : Type 1} → statement M

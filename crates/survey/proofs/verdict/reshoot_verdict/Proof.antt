@@ -6,7 +6,7 @@ use mir.Syntax.{w32}
 use mir.Val.{toZ, ofZ}
 use borrow.Author.Needs.{needs}
 use borrow.Author.Tests.{lt-ltb, le-ltb, not-true, not-false}
-use Rattle.surface.specs.Plot.{isHeight}
+use Rattle.surface.specs.Plot.{plot, isHeight}
 use Rattle.surface.specs.Refusals.{Verdict, verdict, surveyVerdict, reshootVerdict, row5, row6}
 use Rattle.surface.specs.Calls.{answer}
 use Rattle.surface.specs.declared.Answer.{Answer}
@@ -19,7 +19,7 @@ use Rattle.survey.proofs.verdict.reshoot_verdict.Tie as tie
 abbrev first : tie.After-survey-verdict → Verdict
 first c =
     let a = c .before .before .args in
-    surveyVerdict (a .rows) (a .columns) (a .heights .now) (a .marks .now)
+    surveyVerdict (plot (a .rows) (a .columns) (a .heights .now)) (a .marks .now)
 
 code : (c : tie.After-survey-verdict) → c .survey-verdict .result .code ≡ first c .code
 code c = ap (λ (a : Answer). a .code) (c .survey-verdict .ensures)
@@ -27,19 +27,19 @@ code c = ap (λ (a : Answer). a .code) (c .survey-verdict .ensures)
 passed : (c : tie.Else1) → first (c .before) .code ≡ 0
 passed c = sym (code (c .before)) ∙ c .if1 .left
 
-plotted : (c : tie.Else1) → let a = c .before .before .before .args in Plotted (a .rows) (a .columns) (a .heights .now)
-plotted c = survey-plotted _ _ _ _ (passed c) .0
+plotted : (c : tie.Else1) → let a = c .before .before .before .args in Plotted (plot (a .rows) (a .columns) (a .heights .now))
+plotted c = survey-plotted _ _ (passed c) .0
 
 goes-on : (c : tie.Else1)
     → let a = c .before .before .before .args in
-    reshootVerdict (a .rows) (a .columns) (a .heights .now) (a .marks .now) (a .post) (a .height) ≡ verdict (row5 (a .rows) (a .columns) (a .post) ∷ row6 (a .height) ∷ [])
+    reshootVerdict (plot (a .rows) (a .columns) (a .heights .now)) (a .marks .now) (a .post) (a .height) ≡ verdict (row5 (a .rows) (a .columns) (a .post) ∷ row6 (a .height) ∷ [])
 unfolding surveyVerdict reshootVerdict
 goes-on c = verdict-goes-on _ _ tt (passed c)
 
 -- the post is one of the plot's
 inside : (c : tie.Else2)
     → let a = c .before .before .before .before .args in
-    reshootVerdict (a .rows) (a .columns) (a .heights .now) (a .marks .now) (a .post) (a .height) ≡ verdict (row6 (a .height) ∷ [])
+    reshootVerdict (plot (a .rows) (a .columns) (a .heights .now)) (a .marks .now) (a .post) (a .height) ≡ verdict (row6 (a .height) ∷ [])
 inside c =
     let e = c .before in
     let h = lt-ltb (e .before .before .before .args .post) _ (rw (plotted e .size) at (c .if2 .left)) in
@@ -80,7 +80,7 @@ returns-4 c =
     let t = c .before .before in
     let e = t .before in
     e .before .survey-verdict .ensures
-    ∙ ap answer (plotted-survey _ _ _ (plotted e) _ (survey-plotted _ _ _ _ (passed e) .1))
+    ∙ ap answer (plotted-survey _ (plotted e) _ (survey-plotted _ _ (passed e) .1))
     ∙ sym (ap answer (inside t ∙ row-passed _ _ (ap not (sym (tested (c .before)) ∙ not-false _ (c .if3 .left))) ∙ none-left))
 
 pub reshoot-verdict-spec : {M : Type 1} → statement M

@@ -12,29 +12,29 @@ use Rattle.survey_file.proofs.words.as_unsigned.Tie as tie
 bits-z : (c : tie.Start) → toZ w32 (ofZ w32 (c .args .z)) ≡ c .args .z
 bits-z c = toZ-ofZ w32 (c .args .z) (c .fits .z)
 
-below : (c : tie.Then1) → Flipped (c .before .args .z)
-below c = flipped (c .before .args .z) (c .before .fits .z) (rw (bits-z (c .before)) at (c .if1 .taken))
+belowBy : (c : tie.Then1) → Flipped (c .before .args .z)
+belowBy c = flipped (c .before .args .z) (c .before .fits .z) (rw (bits-z (c .before)) at (c .if1 .taken))
 
 above : (c : tie.Else1) → Kept (c .before .args .z)
 above c = kept (c .before .args .z) (c .before .fits .z) (rw (bits-z (c .before)) at (c .if1 .left))
 
 bits-flip : (c : tie.Then1) → toZ w32 (ofZ w32 (negsuc 0 -ℤ c .before .args .z)) ≡ negsuc 0 -ℤ c .before .args .z
-bits-flip c = toZ-ofZ w32 (negsuc 0 -ℤ c .before .args .z) (below c .fits)
+bits-flip c = toZ-ofZ w32 (negsuc 0 -ℤ c .before .args .z) (belowBy c .fits)
 
 sub-result : tie.Need-sub-result
-sub-result c = rw (bits-z (c .before)) (below c .fits)
+sub-result c = rw (bits-z (c .before)) (belowBy c .fits)
 
 cast-result : tie.Need-cast-result
-cast-result c = rw (bits-z (c .before), bits-flip c) (below c .nonneg, record { fits = omega (arith, below c .low) })
+cast-result c = rw (bits-z (c .before), bits-flip c) (belowBy c .nonneg, record { fits = omega (arith, belowBy c .low) })
 
 sub-result-2 : tie.Need-sub-result-2
-sub-result-2 c = rw (bits-z (c .before), bits-flip c) (omega (arith, below c .low))
+sub-result-2 c = rw (bits-z (c .before), bits-flip c) (omega (arith, belowBy c .low))
 
 cast-result-2 : tie.Need-cast-result-2
 cast-result-2 c = rw (bits-z (c .before)) (above c .nonneg, record { fits = omega (arith, above c .low) })
 
 returns : tie.Need-returns
-returns c = rw (bits-z (c .before), bits-flip c) (below c .bits)
+returns c = rw (bits-z (c .before), bits-flip c) (belowBy c .bits)
 
 returns-2 : tie.Need-returns-2
 returns-2 c = rw (bits-z (c .before)) (above c .bits)

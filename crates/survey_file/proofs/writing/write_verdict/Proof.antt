@@ -6,6 +6,7 @@ use native.Mathlib.Omega.{arith}
 use borrow.Author.Needs.{needs}
 use borrow.Author.Tests.{eq-eqb, ne-eqb}
 use lib.ListN.{length}
+use Rattle.surface.specs.Plot.{plot}
 use Rattle.surface.specs.SurveyFile.{fileSize}
 use Rattle.surface.specs.Refusals.{writeVerdict}
 use Rattle.surface.specs.Calls.{answer}
@@ -15,7 +16,7 @@ use Rattle.plot.proofs.Round.{few}
 use Rattle.survey_file.proofs.writing.write_verdict.Statement.{statement}
 use Rattle.survey_file.proofs.writing.write_verdict.Tie as tie
 
-fits : (c : tie.Else1) → let a = c .before .before .before .args in Fits (a .rows) (a .columns) (a .heights .now)
+fits : (c : tie.Else1) → let a = c .before .before .before .args in Fits (plot (a .rows) (a .columns) (a .heights .now))
 fits c = c .before .sized .ensures .fits (c .if1 .left)
 
 -- the code's size of a file is the count rule's

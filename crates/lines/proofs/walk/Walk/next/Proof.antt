@@ -1,6 +1,7 @@
 -- The virtual pit stays; from a post the leaf of next.
 use Prim.Native.Nat.{ℕ}
 use mathlib.Core.Path.{sym, ap, _∙_}
+use Rattle.surface.specs.Plot.{plot}
 use Rattle.plot.proofs.Descents.{next-by}
 use Rattle.lines.proofs.Walking.{next-pit, vertex-post}
 use Rattle.lines.proofs.walk.Walk.next.Statement.{statement}
@@ -17,7 +18,7 @@ next-at-requires c κs = let s = c .before in (s .pre .0, vertex-post (s .pre .0
 returns-2 : tie.Need-returns-2
 returns-2 c =
     let a = c .before .before .args in
-    ap (λ (p : ℕ). record { post = p; up = a .self .up }) (c .next-at .ensures ∙ next-by (a .rows) (a .columns) (a .heights .now) (a .self .up) (a .self .post))
+    ap (λ (p : ℕ). record { post = p; up = a .self .up }) (c .next-at .ensures ∙ next-by (plot (a .rows) (a .columns) (a .heights .now)) (a .self .up) (a .self .post))
 
 pub next-spec : {M : Type 1} → statement M
 next-spec = tie.close (tie.spec returns next-at-requires returns-2)
