@@ -1,38 +1,7 @@
--- The laws, over the definitions of specs/.
-pub mod Bools
-pub mod Sum
-pub mod ListOf
-pub mod FirstNot
-pub mod Scans
-pub mod Grid
-pub mod Cells
-pub mod Order
-pub mod RingPlaces
-pub mod RingEdges
-pub mod Offsets
-pub mod RingOnce
-pub mod Runs
-pub mod Signs
-pub mod Turns
-pub mod Census
-pub mod Balance
-pub mod RunMembers
-pub mod RunStarts
-pub mod Lowest
-pub mod Walks
-pub mod WalkEntries
-pub mod Pieces
-pub mod Agreement
-pub mod Locality
-pub mod Verdicts
-pub mod SurveyFile
-pub mod Accepted
-pub mod MarkCalls
-pub mod FileCalls
-pub mod RoundTrip
-pub mod Series
-pub mod Network
-pub mod Demand
-pub mod Starred
-pub mod StarListing
-pub mod Listing
+-- The laws, over the definitions of specs/, on four floors: each uses those before it.
+-- General: lists and sums. AnyOrder: what holds of any order of the posts, any choice of diagonals and any pick of a lower neighbour. OfPlots: that the
+-- order, diagonals and picks of a plot are such, and what follows. OfCalls: the calls, what they refuse, and demand 3.
+pub mod General
+pub mod AnyOrder
+pub mod OfPlots
+pub mod OfCalls

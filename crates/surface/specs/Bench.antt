@@ -1,8 +1,8 @@
--- Document 01, "Bench plots": the starred ones, all together, over the outcomes of the calls.
+-- docs/SPECIFICATION.md, "Example plots": those that are proved, all together, over the outcomes of the calls.
 use Prim.Native.Nat.{ℕ}
 use mathlib.Core.Path.{_≡_}
 use mathlib.Core.List.{List, [], _∷_}
-use lib.IntN.{ℤ, pos, negsuc}
+use lib.IntN.{pos, negsuc}
 use lib.ListN.{replicate, getD}
 use Rattle.surface.specs.Plot.{Plot, plot}
 use Rattle.surface.specs.Calls.{surveyAnswer, surveyMarks, thalwegAnswer, thalwegList, ridgeAnswer, ridgeList, readAnswer, readHeights}

@@ -1,30 +1,20 @@
--- The whole outcome of each call: its answer, and every list that it may write as it stands afterwards, accepted or refused. (A list lent to be read
--- cannot be written.)
+-- docs/SPECIFICATION.md, "Calls": the whole outcome of each call, its answer and every list that it may write as it stands afterwards, accepted or
+-- refused. (A list lent to be read cannot be written.)
 -- An accepted call answers 0, 0 and its values. A refused one answers its number and place and 0 for each value, and leaves every list.
-use Prim.Native.Nat.{ℕ, _+_, _*_}
+use Prim.Native.Nat.{ℕ, _*_}
 use mathlib.Core.List.{List, _++_}
 use lib.IntN.{ℤ}
 use lib.ListN.{length, getD, set, drop}
-use Rattle.surface.specs.Plot.{Plot, reshot, below, reversed}
+use Rattle.surface.specs.Plot.{Plot, posts, reshot}
 use Rattle.surface.specs.Marks.{marksOf, redrawn, peaks, pits, saddles}
-use Rattle.surface.specs.Lines.{nextDown, nextUp, thalweg, ridge, dalesOf, hillsOf}
+use Rattle.surface.specs.Lines.{Descent, next, line, down, up, dalesOf, hillsOf}
 use Rattle.surface.specs.SurveyFile.{heightsIn, fileOf}
-use Rattle.surface.specs.Refusals.{Verdict, settled, surveyVerdict, reshootVerdict, nextVerdict, lineVerdict, partsVerdict, readVerdict, writeVerdict}
+use Rattle.surface.specs.Refusals.{settled, surveyVerdict, reshootVerdict, nextVerdict, lineVerdict, partsVerdict, readVerdict, writeVerdict}
 use Rattle.surface.specs.declared.Answer.{Answer}
 use Rattle.surface.specs.declared.Counts.{Counts}
 use Rattle.surface.specs.declared.Next.{Next}
 use Rattle.surface.specs.declared.Entries.{Entries}
 use Rattle.surface.specs.declared.Size.{Size}
-
-abbrev pub answer : Verdict → Answer
-answer v = record { code = v .code; place = v .place }
-
--- how many entries a line has, 0 where it was refused; and its list, with the entries at the front, where later ones keep their content
-abbrev pub lineAnswer : Verdict → List ℕ → Entries
-lineAnswer v entries = record { code = v .code; place = v .place; count = settled v (length entries) 0 }
-
-abbrev pub lineList : Verdict → List ℕ → List ℕ → List ℕ
-lineList v entries list = settled v (entries ++ drop (length entries) list) list
 
 module _ (pl : Plot) where
   -- survey(rows, columns, heights, marks)
@@ -47,46 +37,50 @@ module _ (pl : Plot) where
   reshootHeights marks post new = settled (reshootVerdict pl marks post new) (set pl.heights post new) pl.heights
 
   unfoldable pub reshootMarks : List ℕ → ℕ → ℤ → List ℕ
-  reshootMarks marks post new =
-      settled (reshootVerdict pl marks post new) (redrawn (reshot pl post new) marks post) marks
+  reshootMarks marks post new = settled (reshootVerdict pl marks post new) (redrawn (reshot pl post new) marks post) marks
 
   unfoldable pub reshootAnswer : List ℕ → ℕ → ℤ → Answer
-  reshootAnswer marks post new = answer (reshootVerdict pl marks post new)
+  reshootAnswer marks post new = reshootVerdict pl marks post new
 
   -- next_down(rows, columns, heights, post), next_up(..)
-  abbrev pub nextAnswer : (ℕ → ℕ) → ℕ → Next
-  nextAnswer step post =
+  abbrev pub nextAnswer : Descent → ℕ → Next
+  nextAnswer d post =
       let v = nextVerdict pl post in
-      record { code = v .code; place = v .place; post = settled v (step post) 0 }
+      record { code = v .code; place = v .place; post = settled v (next d post) 0 }
 
   unfoldable pub nextDownAnswer : ℕ → Next
-  nextDownAnswer = nextAnswer (nextDown pl)
+  nextDownAnswer = nextAnswer (down pl)
 
   unfoldable pub nextUpAnswer : ℕ → Next
-  nextUpAnswer = nextAnswer (nextUp pl)
+  nextUpAnswer = nextAnswer (up pl)
 
-  -- thalweg(rows, columns, heights, post, run, line), ridge(..)
-  abbrev pub thalwegVerdict : ℕ → ℕ → List ℕ → Verdict
-  thalwegVerdict post run = lineVerdict pl (below pl) (thalweg pl post run) post run
+  -- thalweg(rows, columns, heights, post, run, line), ridge(..): how many entries the line has, 0 where it was refused; and its list, with the
+  -- entries at the front, where later ones keep their content
+  abbrev pub lineAnswer : Descent → ℕ → ℕ → List ℕ → Entries
+  lineAnswer d post run list =
+      let v = lineVerdict pl d post run list in
+      record { code = v .code; place = v .place; count = settled v (length (line d (posts pl) post run)) 0 }
 
-  abbrev pub ridgeVerdict : ℕ → ℕ → List ℕ → Verdict
-  ridgeVerdict post run = lineVerdict pl (reversed (below pl)) (ridge pl post run) post run
+  abbrev pub lineList : Descent → ℕ → ℕ → List ℕ → List ℕ
+  lineList d post run list =
+      let entries = line d (posts pl) post run in
+      settled (lineVerdict pl d post run list) (entries ++ drop (length entries) list) list
 
   unfoldable pub thalwegAnswer : ℕ → ℕ → List ℕ → Entries
-  thalwegAnswer post run list = lineAnswer (thalwegVerdict post run list) (thalweg pl post run)
+  thalwegAnswer = lineAnswer (down pl)
 
   unfoldable pub thalwegList : ℕ → ℕ → List ℕ → List ℕ
-  thalwegList post run list = lineList (thalwegVerdict post run list) (thalweg pl post run) list
+  thalwegList = lineList (down pl)
 
   unfoldable pub ridgeAnswer : ℕ → ℕ → List ℕ → Entries
-  ridgeAnswer post run list = lineAnswer (ridgeVerdict post run list) (ridge pl post run)
+  ridgeAnswer = lineAnswer (up pl)
 
   unfoldable pub ridgeList : ℕ → ℕ → List ℕ → List ℕ
-  ridgeList post run list = lineList (ridgeVerdict post run list) (ridge pl post run) list
+  ridgeList = lineList (up pl)
 
   -- dales_and_hills(rows, columns, heights, dales, hills)
   unfoldable pub partsAnswer : List ℕ → List ℕ → Answer
-  partsAnswer dales hills = answer (partsVerdict pl dales hills)
+  partsAnswer dales hills = partsVerdict pl dales hills
 
   unfoldable pub partsDales : List ℕ → List ℕ → List ℕ
   partsDales dales hills = settled (partsVerdict pl dales hills) (dalesOf pl) dales
@@ -96,7 +90,7 @@ module _ (pl : Plot) where
 
   -- write_survey(rows, columns, heights, file)
   unfoldable pub writeAnswer : List ℕ → Answer
-  writeAnswer file = answer (writeVerdict pl file)
+  writeAnswer file = writeVerdict pl file
 
   unfoldable pub writeFile : List ℕ → List ℕ
   writeFile file = settled (writeVerdict pl file) (fileOf pl) file

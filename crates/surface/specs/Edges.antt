@@ -1,11 +1,11 @@
--- Document 01, "Edges". Everything here is over any height order and any choice of diagonals; document 01's choice is `throughLowest`.
+-- docs/SPECIFICATION.md, "Edges". Everything is over any height order and any choice of diagonals; those of a plot are `fallsIn`.
 use Prim.Native.Nat.{ℕ, _+_, _-_, _*_, _<_}
 use mathlib.Core.Path.{_≡_}
 use mathlib.Core.Bool.{Bool, true, false, cond, not, _&&_, _||_}
 use mathlib.Core.List.{List, [], _∷_, _++_}
 use lib.Dec.{T, eqb}
 use Rattle.surface.specs.Lists.{keep, all, takeWhile, lastOr}
-use Rattle.surface.specs.Plot.{row, column, virtualPit, reversed}
+use Rattle.surface.specs.Plot.{Plot, row, column, virtualPit, below, reversed}
 
 -- the lowest of x and the members of a list, in an order
 unfoldable pub lowestOr : (ℕ → ℕ → Bool) → ℕ → List ℕ → ℕ
@@ -17,35 +17,38 @@ unfoldable pub lowest : (ℕ → ℕ → Bool) → List ℕ → ℕ
 lowest lower [] = virtualPit
 lowest lower (x ∷ l) = lowestOr lower x l
 
-module _ (rows columns : ℕ) where
-  -- the four borders of the plot
-  abbrev pub top : ℕ → Bool
-  top p = eqb (row columns p) 0
+-- the four borders of the plot
+abbrev pub top : ℕ → ℕ → Bool
+top columns p = eqb (row columns p) 0
 
-  abbrev pub bottom : ℕ → Bool
-  bottom p = eqb (row columns p + 1) rows
+abbrev pub bottom : ℕ → ℕ → ℕ → Bool
+bottom rows columns p = eqb (row columns p + 1) rows
 
-  abbrev pub first : ℕ → Bool
-  first p = eqb (column columns p) 0
+abbrev pub left : ℕ → ℕ → Bool
+left columns p = eqb (column columns p) 0
 
-  abbrev pub last : ℕ → Bool
-  last p = eqb (column columns p + 1) columns
+abbrev pub right : ℕ → ℕ → Bool
+right columns p = eqb (column columns p + 1) columns
 
-  abbrev pub isBorder : ℕ → Bool
-  isBorder p = top p || (last p || (bottom p || first p))
+abbrev pub isBorder : ℕ → ℕ → ℕ → Bool
+isBorder rows columns p = top columns p || (right columns p || (bottom rows columns p || left columns p))
 
-  -- A cell is named by its top left post a:     a ------ a + 1
-  -- it is there where a is in neither the       |          |
-  -- last column nor the bottom row.          a + columns - a + columns + 1
-  abbrev pub isCell : ℕ → Bool
-  isCell a = not (last a) && not (bottom a)
+-- A cell is named by its top left post a:     a ------ a + 1
+-- it is there where a is in neither the       |          |
+-- last column nor the bottom row.          a + columns - a + columns + 1
+abbrev pub isCell : ℕ → ℕ → ℕ → Bool
+isCell rows columns a = not (right columns a) && not (bottom rows columns a)
 
 -- A choice of diagonals says of each cell a whether its diagonal falls, from top left to bottom right, or rises, from bottom left to top right.
--- Document 01's is the one through the cell's lowest post.
+-- One choice is the diagonal through the cell's lowest post in an order.
 unfoldable pub throughLowest : (ℕ → ℕ → Bool) → ℕ → ℕ → Bool
 throughLowest lower columns a =
     let l = lowest lower (a ∷ (a + 1) ∷ (a + columns) ∷ (a + columns + 1) ∷ []) in
     eqb l a || eqb l (a + columns + 1)
+
+-- the diagonals of a plot
+abbrev pub fallsIn : Plot → ℕ → Bool
+fallsIn pl = throughLowest (below pl) pl.columns
 
 -- Edges: the sides of cells, their diagonals, and one from each border post to the virtual pit.
 pub data Corner : Type 0 where
@@ -100,23 +103,27 @@ module _ (rows columns : ℕ) (falls : ℕ → Bool) where
   -- the bottom row, else at W.
   unfoldable pub places : ℕ → List Place
   places p =
-      let t = top rows columns p in
+      let t = top columns p in
       let b = bottom rows columns p in
-      let f = first rows columns p in
-      let l = last rows columns p in
+      let l = left columns p in
+      let r = right columns p in
       place true (cond t virtualPit (p - columns))
-      ∷ place (not t && (not l && not (falls (p - columns)))) (p - columns + 1)
-      ∷ place (not (l && t)) (cond l virtualPit (p + 1))
-      ∷ place (not l && (not b && falls p)) (p + columns + 1)
-      ∷ place (not (b && (t || l))) (cond b virtualPit (p + columns))
-      ∷ place (not b && (not f && not (falls (p - 1)))) (p + columns - 1)
-      ∷ place (not (f && (t || (l || b)))) (cond f virtualPit (p - 1))
-      ∷ place (not f && (not t && falls (p - columns - 1))) (p - columns - 1)
+      ∷ place (not t && (not r && not (falls (p - columns)))) (p - columns + 1)
+      ∷ place (not (r && t)) (cond r virtualPit (p + 1))
+      ∷ place (not r && (not b && falls p)) (p + columns + 1)
+      ∷ place (not (b && (t || r))) (cond b virtualPit (p + columns))
+      ∷ place (not b && (not l && not (falls (p - 1)))) (p + columns - 1)
+      ∷ place (not (l && (t || (r || b)))) (cond l virtualPit (p - 1))
+      ∷ place (not l && (not t && falls (p - columns - 1))) (p - columns - 1)
       ∷ []
 
   -- the ring of a post: its neighbours at those places
   unfoldable pub ring : ℕ → List ℕ
   ring p = members (places p)
+
+-- the rings of a plot
+unfoldable pub ringOf : Plot → ℕ → List ℕ
+ringOf pl = ring pl.rows pl.columns (fallsIn pl)
 
 -- A run is a longest stretch of the ring, taken as a circle, whose members all pass the test. Here are those that start in l, in order: a run starts
 -- where a member passes and the one before it, of which `before` tells, does not. `circle` is the ring

@@ -1,8 +1,11 @@
--- Document 01's definitions, a file for each of its sections, in its order. These files are what a reader must believe; the laws are in proofs/.
--- (Lists, Calls and Demand are no sections of it. The series speaks of refusals, and the lister of a bench plot, so their files come after those.)
+-- The definitions of docs/SPECIFICATION.md, a file for each of its sections. These files are what a reader must believe; the laws are in proofs/.
+-- (Lists, Signs and Demand are no sections of it. Signs serves the code, and no promise of a call cites it; Demand states what is proved of them all.)
 --
 -- To read them without knowing the language:
 --     f : A → B, and below it f x = ..       a definition with its type; `abbrev`, `unfoldable` and `pub` may be skipped
+--     (x : A) → B     (x y : A) → B          for every x of type A (for every x and y), B
+--     A → B, where these are statements      if A then B
+--     {A : Type 0} → ..                      for every type A, which is not written where the definition is used
 --     λ x. ..    let x = .. in ..            a function; a name for a value
 --     cond b x y                             x where b is true, else y;  &&, ||, not: of true and false
 --     leb a b   ltb a b   eqb a b   ltZ a b  the tests a ≤ b, a < b, a = b of natural numbers, and a < b of whole numbers
@@ -10,7 +13,7 @@
 --     pos n     negsuc n   negℤ a   a *ℤ b   the whole numbers n and -(n + 1); minus a; a times b
 --     []   x ∷ l   l ++ m   length           lists; x ∷ binds closer than ++
 --     getD l i d   set l i x   replicate n x element i of l, or d past its end; l with x at place i; x, n times
---     take n l   drop n l   map f l          the first n elements; the others; f of each
+--     take n l   drop n l   map f l          the first n elements; the others; f of each.  flatten: lists one after the other
 --     A × B   A ⊎ B   A ↔ B   A → ⊥   x ≡ y  and; or; if and only if; not; equal.  T b: b is true.  Unit {0}: no condition
 --     List·Memᴰ x l                          x is an element of l
 --     record { x = ..; y = .. }   a .x       a value of named parts; its part x
@@ -20,6 +23,7 @@ pub mod Lists
 pub mod Plot
 pub mod Edges
 pub mod Marks
+pub mod Signs
 pub mod Lines
 pub mod SurveyFile
 pub mod Refusals

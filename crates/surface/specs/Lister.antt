@@ -1,24 +1,18 @@
--- Document 01, "The lister": the text that it prints, as a list of bytes.
+-- docs/SPECIFICATION.md, "Lister": the text that it prints, as a list of bytes.
 use Prim.Native.Nat.{ℕ, zero, suc, _+_, _*_, _/_, _%_}
 use mathlib.Core.Path.{_≡_}
 use mathlib.Core.Bool.{cond}
-use mathlib.Core.List.{List, [], _∷_, _++_}
+use mathlib.Core.List.{List, [], _∷_, _++_, flatten}
 use lib.Dec.{ltb, eqb}
-use lib.IntN.{ℤ, pos}
+use lib.IntN.{pos}
 use lib.ListN.{length, getD, take, replicate}
 use Rattle.surface.specs.Lists.{listOf, lastOr}
-use Rattle.surface.specs.Plot.{Plot, plot, posts, virtualPit, below}
-use Rattle.surface.specs.Edges.{lowerRuns, upperRuns}
-use Rattle.surface.specs.Marks.{ringOf, markAt, marksOf, peaks, pits, saddles}
-use Rattle.surface.specs.Lines.{thalweg, ridge}
+use Rattle.surface.specs.Plot.{Plot, plot, posts, virtualPit}
+use Rattle.surface.specs.Marks.{markAt, marksOf, peaks, pits, saddles}
+use Rattle.surface.specs.Lines.{Descent, runsOf, line, down, up}
 use Rattle.surface.specs.SurveyFile.{fileOf}
 use Rattle.surface.specs.Calls.{readAnswer, readHeights}
 use Rattle.surface.specs.Bench.{star}
-
--- lists one after the other
-unfoldable pub concat : {A : Type 0} → List (List A) → List A
-concat [] = []
-concat (x ∷ l) = x ++ concat l
 
 -- a number in decimal digits, without leading zeros; ten digits are enough for 32 bits
 unfoldable pub digits : ℕ → ℕ → List ℕ
@@ -40,6 +34,10 @@ textLine letter l = letter ∷ fields l
 unfoldable pub endName : ℕ → List ℕ
 endName v = cond (eqb v virtualPit) (86 ∷ []) (decimal v)
 
+-- a line of saddle p: letter, saddle, run, end
+unfoldable pub lineText : ℕ → ℕ → ℕ → List ℕ → List ℕ
+lineText letter p run entries = textLine letter (decimal p ∷ decimal run ∷ endName (lastOr virtualPit entries) ∷ [])
+
 module _ (pl : Plot) where
   -- N, rows, columns, peaks, pits, saddles
   unfoldable pub headLine : List ℕ
@@ -47,22 +45,20 @@ module _ (pl : Plot) where
       let m = marksOf pl in
       textLine 78 (decimal pl.rows ∷ decimal pl.columns ∷ decimal (peaks m) ∷ decimal (pits m) ∷ decimal (saddles m) ∷ [])
 
-  -- T, saddle, run, end; R likewise
-  unfoldable pub lineText : ℕ → ℕ → ℕ → List ℕ → List ℕ
-  lineText letter p run entries = textLine letter (decimal p ∷ decimal run ∷ endName (lastOr virtualPit entries) ∷ [])
+  -- the lines of a saddle in one direction, a line of text for each run
+  abbrev pub linesText : ℕ → Descent → ℕ → List ℕ
+  linesText letter d p = flatten (listOf (λ run. lineText letter p run (line d (posts pl) p run)) (length (runsOf d p)))
 
-  -- a saddle's water lines, then its crest lines
+  -- its water lines, T, then its crest lines, R
   unfoldable pub saddleLines : ℕ → List ℕ
-  saddleLines p =
-      concat (listOf (λ run. lineText 84 p run (thalweg pl p run)) (length (lowerRuns (below pl) (ringOf pl) p)))
-      ++ concat (listOf (λ run. lineText 82 p run (ridge pl p run)) (length (upperRuns (below pl) (ringOf pl) p)))
+  saddleLines p = linesText 84 (down pl) p ++ linesText 82 (up pl) p
 
   unfoldable pub postLines : ℕ → List ℕ
   postLines p = cond (ltb (markAt pl p) 3) [] (saddleLines p)
 
   -- the saddles in post order
   unfoldable pub plotText : List ℕ
-  plotText = headLine ++ concat (listOf postLines (posts pl))
+  plotText = headLine ++ flatten (listOf postLines (posts pl))
 
 -- a refusal: E, number, place
 unfoldable pub refusedText : ℕ → ℕ → List ℕ
@@ -79,7 +75,7 @@ listing file =
 unfoldable pub printed : List ℕ → List ℕ
 printed input = listing (take 57608 input)
 
--- document 01's listing of the star plot
+-- the listing of the star plot
 --     N 3 3 4 1 3 / T 4 0 V / T 4 1 V / T 4 2 V / T 4 3 V / R 4 0 1 / R 4 1 5 / R 4 2 7 / R 4 3 3
 abbrev pub StarListing : Type 0
 StarListing =

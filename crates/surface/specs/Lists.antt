@@ -1,4 +1,4 @@
--- Words for lists that the sections of document 01 share. Places in a list count from 0.
+-- Words for lists that the other files share. Places in a list count from 0.
 use Prim.Native.Nat.{ℕ, zero, suc, _+_}
 use mathlib.Core.Bool.{Bool, true, false, cond, _&&_, _||_}
 use mathlib.Core.List.{List, [], _∷_, _++_}

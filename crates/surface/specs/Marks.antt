@@ -1,21 +1,19 @@
--- Document 01, "Marks and counts". Over any order and any rings; document 01's own are `markAt` and `marksOf`.
-use Prim.Native.Nat.{ℕ, suc, _+_, _-_, _*_}
+-- docs/SPECIFICATION.md, "Marks and counts". Over any order and any rings; those of a plot are `markAt` and `marksOf`.
+use Prim.Native.Nat.{ℕ, suc, _+_, _-_}
 use mathlib.Core.Bool.{Bool, cond, not, _&&_}
 use mathlib.Core.List.{List, map}
 use lib.Dec.{leb, eqb}
-use lib.IntN.{ℤ}
 use lib.ListN.{length, getD}
 use Rattle.surface.specs.Lists.{listOf, any, count, total}
 use Rattle.surface.specs.Plot.{Plot, posts, row, column, below}
-use Rattle.surface.specs.Edges.{ring, throughLowest, lowerRuns}
+use Rattle.surface.specs.Edges.{ringOf, lowerRuns}
 
 -- 1 peak: no neighbour is above. 2 pit: no neighbour is below. 0 ordinary: one lower run and some neighbour above. 3, 4, 5: a saddle of 2, 3, 4 lower runs
 unfoldable pub markFor : Bool → Bool → ℕ → ℕ
 markFor someAbove someBelow k = cond (not someAbove) 1 (cond (not someBelow) 2 (cond (eqb k 1) 0 (k + 1)))
 
 unfoldable pub mark : (ℕ → ℕ → Bool) → (ℕ → List ℕ) → ℕ → ℕ
-mark lower ringOf p =
-    markFor (any (λ q. lower p q) (ringOf p)) (any (λ q. lower q p) (ringOf p)) (length (lowerRuns lower ringOf p))
+mark lower ring p = markFor (any (λ q. lower p q) (ring p)) (any (λ q. lower q p) (ring p)) (length (lowerRuns lower ring p))
 
 -- the multiplicity of a saddle by its mark, 0 for every other mark
 abbrev pub multiplicity : ℕ → ℕ
@@ -31,13 +29,7 @@ pits marks = suc (count (λ m. eqb m 2) marks)
 unfoldable pub saddles : List ℕ → ℕ
 saddles marks = total (map multiplicity marks)
 
--- document 01's rings, with the diagonals through the lowest posts, and its marks
-abbrev pub fallsIn : Plot → ℕ → Bool
-fallsIn pl = throughLowest (below pl) pl.columns
-
-unfoldable pub ringOf : Plot → ℕ → List ℕ
-ringOf pl = ring pl.rows pl.columns (fallsIn pl)
-
+-- the marks of a plot
 unfoldable pub markAt : Plot → ℕ → ℕ
 markAt pl = mark (below pl) (ringOf pl)
 

@@ -1,22 +1,25 @@
--- Document 01, "Plot, posts and height order".
-use Prim.Native.Nat.{ℕ, _*_, _/_, _%_}
-use mathlib.Core.Bool.{Bool, not, _&&_, _||_}
+-- docs/SPECIFICATION.md, "Plot, posts and height order".
+use Prim.Native.Nat.{ℕ, _*_, _/_, _%_, _≤_, _<_}
+use mathlib.Core.Path.{_≡_}
+use mathlib.Core.Bool.{Bool, true, not, _&&_, _||_}
 use mathlib.Core.List.{List}
+use mathlib.Core.Logic.{_⊎_}
 use lib.Dec.{leb, ltb, eqb}
 use lib.IntN.{ℤ, pos, negsuc}
 use lib.Signed.{ltZ}
-use lib.ListN.{getD, set}
+use lib.ListN.{length, getD, set}
+use Rattle.surface.specs.Lists.{all}
+use Rattle.surface.specs.declared.Grid.{Grid}
 
--- a plot has 2 to 120 rows and 2 to 120 columns
+-- a plot has 2 to 120 rows and 2 to 120 columns, so at most 14,400 posts
+abbrev pub maxSide : ℕ
+maxSide = 120
+
+abbrev pub maxPosts : ℕ
+maxPosts = 14400
+
 abbrev pub isSide : ℕ → Bool
-isSide n = leb 2 n && leb n 120
-
--- post number = row times columns plus column, both counted from 0 at the top left
-abbrev pub row : ℕ → ℕ → ℕ
-row columns p = p / columns
-
-abbrev pub column : ℕ → ℕ → ℕ
-column columns p = p % columns
+isSide n = leb 2 n && leb n maxSide
 
 -- a height is a whole number of millimetres, from -1,000,000 to 1,000,000
 abbrev pub isHeight : ℤ → Bool
@@ -31,6 +34,9 @@ pub record Plot : Type 0 where
 abbrev pub plot : ℕ → ℕ → List ℤ → Plot
 plot rows columns heights = record { rows = rows; columns = columns; heights = heights }
 
+abbrev pub plotOf : Grid → List ℤ → Plot
+plotOf grid heights = plot (grid .rows) (grid .columns) heights
+
 -- how many posts it has
 abbrev pub posts : Plot → ℕ
 posts pl = pl.rows * pl.columns
@@ -42,22 +48,43 @@ over pl heights = record { rows = pl.rows; columns = pl.columns; heights = heigh
 abbrev pub reshot : Plot → ℕ → ℤ → Plot
 reshot pl p new = over pl (set pl.heights p new)
 
--- the height of post p (0 past the list, where there is no post)
-abbrev pub height : List ℤ → ℕ → ℤ
-height hs p = getD hs p (pos 0)
+-- post number = row times columns plus column, both counted from 0 at the top left
+abbrev pub row : ℕ → ℕ → ℕ
+row columns p = p / columns
 
--- the virtual pit, as it is written in lists
+abbrev pub column : ℕ → ℕ → ℕ
+column columns p = p % columns
+
+-- the height of post p (0 past the list, where there is no post)
+abbrev pub height : Plot → ℕ → ℤ
+height pl p = getD pl.heights p (pos 0)
+
+-- the virtual pit, as it is written in lists; a vertex is one of n posts or the virtual pit
 unfoldable pub virtualPit : ℕ
 virtualPit = 65535
 
--- the height order: p is below q when its height is less, or the heights are equal and p's number is less; the virtual pit is below every post
-unfoldable pub belowBy : List ℤ → ℕ → ℕ → Bool
-belowBy hs p q =
-    not (eqb q virtualPit) && (eqb p virtualPit || (ltZ (height hs p) (height hs q) || (not (ltZ (height hs q) (height hs p)) && ltb p q)))
+abbrev pub Vertex : ℕ → ℕ → Type 0
+Vertex n p = (p < n) ⊎ (p ≡ virtualPit)
 
-abbrev pub below : Plot → ℕ → ℕ → Bool
-below pl = belowBy pl.heights
+-- the height order: p is below q when its height is less, or the heights are equal and p's number is less; the virtual pit is below every post
+unfoldable pub below : Plot → ℕ → ℕ → Bool
+below pl p q =
+    not (eqb q virtualPit) && (eqb p virtualPit || (ltZ (height pl p) (height pl q) || (not (ltZ (height pl q) (height pl p)) && ltb p q)))
 
 -- an order the other way round: what is stated of "below" in one holds of "above" in the other
 abbrev pub reversed : (ℕ → ℕ → Bool) → ℕ → ℕ → Bool
 reversed lower p q = lower q p
+
+-- the sides that a plot may have
+pub record Sides (rows columns : ℕ) : Type 0 where
+  pub tall : 2 ≤ rows
+  pub low : rows ≤ maxSide
+  pub wide : 2 ≤ columns
+  pub narrow : columns ≤ maxSide
+  pub few : rows * columns ≤ maxPosts
+
+-- a plot as every call takes it
+pub record Valid (pl : Plot) : Type 0 where
+  pub sides : Sides pl.rows pl.columns
+  pub size : length pl.heights ≡ posts pl
+  pub inRange : all isHeight pl.heights ≡ true

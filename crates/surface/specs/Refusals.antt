@@ -1,4 +1,4 @@
--- Document 01, "What the panel shows when a call is turned away": the table, and for each call the rows that it has a use for, in order.
+-- docs/SPECIFICATION.md, "Refusals": the table, and for each call the rows that it has a use for, in order.
 use Prim.Native.Nat.{ℕ, _-_, _*_}
 use mathlib.Core.Bool.{Bool, cond, not, _&&_, _||_}
 use mathlib.Core.List.{List, [], _∷_}
@@ -7,9 +7,10 @@ use lib.IntN.{ℤ}
 use lib.ListN.{length, getD}
 use Rattle.surface.specs.Lists.{firstNot}
 use Rattle.surface.specs.Plot.{Plot, posts, isSide, isHeight}
-use Rattle.surface.specs.Edges.{lowerRuns}
-use Rattle.surface.specs.Marks.{ringOf, markAt}
+use Rattle.surface.specs.Marks.{markAt}
+use Rattle.surface.specs.Lines.{Descent, runsOf, line}
 use Rattle.surface.specs.SurveyFile.{statedCount, countFor, fileSize, isTenths, tenthsOf}
+use Rattle.surface.specs.declared.Answer.{Answer}
 
 -- a row of the table: when it holds, what is returned and the place
 pub record Row : Type 0 where
@@ -18,20 +19,19 @@ pub record Row : Type 0 where
   pub place : ℕ
 
 -- what a call returns first: number and place, 0 and 0 where it is accepted
-pub record Verdict : Type 0 where
-  pub code : ℕ
-  pub place : ℕ
+abbrev pub accepted : Answer
+accepted = record { code = 0; place = 0 }
 
 -- where several rows hold, the upper row wins
-unfoldable pub verdict : List Row → Verdict
-verdict [] = record { code = 0; place = 0 }
+unfoldable pub verdict : List Row → Answer
+verdict [] = accepted
 verdict (r ∷ rs) = cond (r .holds) (record { code = r .code; place = r .place }) (verdict rs)
 
-abbrev pub isAccepted : Verdict → Bool
+abbrev pub isAccepted : Answer → Bool
 isAccepted v = eqb (v .code) 0
 
 -- what stands afterwards: `new` where the call was accepted, `old` where it was refused
-abbrev pub settled : {A : Type 0} → Verdict → A → A → A
+abbrev pub settled : {A : Type 0} → Answer → A → A → A
 settled v new old = cond (isAccepted v) new old
 
 -- a row whose place is 0
@@ -59,8 +59,8 @@ abbrev pub row4 : (ℤ → Bool) → List ℤ → Row
 row4 isIn hs = record { holds = ltb (firstNot isIn hs) (length hs); code = 4; place = firstNot isIn hs }
 
 -- 5: post number not below rows times columns
-abbrev pub row5 : ℕ → ℕ → ℕ → Row
-row5 rows columns post = rowOf 5 (not (ltb post (rows * columns)))
+abbrev pub row5 : Plot → ℕ → Row
+row5 pl post = rowOf 5 (not (ltb post (posts pl)))
 
 -- 6: new height outside its range
 abbrev pub row6 : ℤ → Row
@@ -70,9 +70,9 @@ row6 new = rowOf 6 (not (isHeight new))
 abbrev pub row7 : Plot → ℕ → Row
 row7 pl post = rowOf 7 (ltb (markAt pl post) 3)
 
--- 8: run number not below the post's runs of that sort: the lower ones, or the upper ones, which are lower in the reversed order
-abbrev pub row8 : Plot → (ℕ → ℕ → Bool) → ℕ → ℕ → Row
-row8 pl lower post run = rowOf 8 (not (ltb run (length (lowerRuns lower (ringOf pl) post))))
+-- 8: run number not below the post's runs of that sort: the lower ones downward, the upper ones upward
+abbrev pub row8 : Descent → ℕ → ℕ → Row
+row8 d post run = rowOf 8 (not (ltb run (length (runsOf d post))))
 
 -- 9: the line has more entries than its list
 abbrev pub row9 : List ℕ → List ℕ → Row
@@ -93,38 +93,38 @@ row12 file rows columns =
 
 -- What each call is turned away for.
 module _ (pl : Plot) where
-  unfoldable pub surveyVerdict : List ℕ → Verdict
+  unfoldable pub surveyVerdict : List ℕ → Answer
   surveyVerdict marks =
       verdict (row1 pl.rows pl.columns ∷ row2 pl ∷ row3 marks (posts pl) ∷ row4 isHeight pl.heights ∷ [])
 
-  unfoldable pub reshootVerdict : List ℕ → ℕ → ℤ → Verdict
+  unfoldable pub reshootVerdict : List ℕ → ℕ → ℤ → Answer
   reshootVerdict marks post new =
       verdict
       (row1 pl.rows pl.columns
       ∷ row2 pl
       ∷ row3 marks (posts pl)
       ∷ row4 isHeight pl.heights
-      ∷ row5 pl.rows pl.columns post
+      ∷ row5 pl post
       ∷ row6 new
       ∷ [])
 
-  unfoldable pub nextVerdict : ℕ → Verdict
-  nextVerdict post = verdict (row1 pl.rows pl.columns ∷ row2 pl ∷ row4 isHeight pl.heights ∷ row5 pl.rows pl.columns post ∷ [])
+  unfoldable pub nextVerdict : ℕ → Answer
+  nextVerdict post = verdict (row1 pl.rows pl.columns ∷ row2 pl ∷ row4 isHeight pl.heights ∷ row5 pl post ∷ [])
 
-  -- of a line in the order `lower` whose entries are `entries`
-  unfoldable pub lineVerdict : (ℕ → ℕ → Bool) → List ℕ → ℕ → ℕ → List ℕ → Verdict
-  lineVerdict lower entries post run list =
+  -- of a line downward or upward
+  unfoldable pub lineVerdict : Descent → ℕ → ℕ → List ℕ → Answer
+  lineVerdict d post run list =
       verdict
       (row1 pl.rows pl.columns
       ∷ row2 pl
       ∷ row4 isHeight pl.heights
-      ∷ row5 pl.rows pl.columns post
+      ∷ row5 pl post
       ∷ row7 pl post
-      ∷ row8 pl lower post run
-      ∷ row9 entries list
+      ∷ row8 d post run
+      ∷ row9 (line d (posts pl) post run) list
       ∷ [])
 
-  unfoldable pub partsVerdict : List ℕ → List ℕ → Verdict
+  unfoldable pub partsVerdict : List ℕ → List ℕ → Answer
   partsVerdict dales hills =
       verdict
       (row1 pl.rows pl.columns
@@ -133,17 +133,12 @@ module _ (pl : Plot) where
       ∷ row4 isHeight pl.heights
       ∷ [])
 
-  unfoldable pub writeVerdict : List ℕ → Verdict
+  unfoldable pub writeVerdict : List ℕ → Answer
   writeVerdict file =
-      verdict
-      (row1 pl.rows pl.columns
-      ∷ row2 pl
-      ∷ row3 file (fileSize pl.rows pl.columns)
-      ∷ row4 isHeight pl.heights
-      ∷ [])
+      verdict (row1 pl.rows pl.columns ∷ row2 pl ∷ row3 file (fileSize pl.rows pl.columns) ∷ row4 isHeight pl.heights ∷ [])
 
 -- of reading a file into a list that receives the heights
-unfoldable pub readVerdict : List ℕ → List ℤ → Verdict
+unfoldable pub readVerdict : List ℕ → List ℤ → Answer
 readVerdict file hs =
     let rows = getD file 5 0 in
     let columns = getD file 6 0 in

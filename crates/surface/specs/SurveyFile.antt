@@ -1,4 +1,4 @@
--- Document 01, "Survey file".
+-- docs/SPECIFICATION.md, "Survey file".
 --
 --     byte   0        1 .. 4               5      6         7 .. 10        11 .. 14       ..
 --            version  bytes that follow    rows   columns   post 0         post 1         ..

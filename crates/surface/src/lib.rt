@@ -1,5 +1,33 @@
-// What every call answers: the refusal's number and place, 0 and 0 where it was accepted, and then its values, all 0 where it was refused.
+// What the calls share: their answers, the grid that the functions below them work on, and the numbers of docs/SPECIFICATION.md by name.
 
+// The most rows or columns that a plot may have, and the most posts.
+pub const MAX_SIDE: usize = 120;
+
+pub const MAX_POSTS: usize = 14400;
+
+// The lowest and the highest height, in millimetres.
+pub const LOWEST: i32 = -1000000;
+
+pub const HIGHEST: i32 = 1000000;
+
+// The virtual pit, as lists and answers have it.
+pub const VIRTUAL_PIT: usize = 65535;
+
+// The first mark of a saddle.
+pub const SADDLE: u8 = 3;
+
+// Which way a walk goes: down to a pit or up to a peak.
+pub const DOWN: bool = false;
+
+pub const UP: bool = true;
+
+// The sides of a plot whose heights are lent beside it.
+pub struct Grid {
+    pub rows: usize,
+    pub columns: usize,
+}
+
+// What every call answers: the refusal's number and place, 0 and 0 where it was accepted, and then its values, all 0 where it was refused.
 #[repr(C)]
 pub struct Answer {
     pub code: u32,

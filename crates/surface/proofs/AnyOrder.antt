@@ -1,0 +1,20 @@
+-- Grids, rings and runs; then the laws over any strict total order, any choice of diagonals and any pick.
+pub mod Grid
+pub mod Cells
+pub mod RingPlaces
+pub mod RingEdges
+pub mod Offsets
+pub mod RingOnce
+pub mod Order
+pub mod Lowest
+pub mod Runs
+pub mod RunMembers
+pub mod Signs
+pub mod Turns
+pub mod Census
+pub mod Balance
+pub mod Walks
+pub mod Pieces
+pub mod Agreement
+pub mod Locality
+pub mod Network

@@ -1,0 +1,11 @@
+-- The outcomes of the calls: the table of refusals, what acceptance says, files, series, demand 3, and the example plots.
+pub mod Verdicts
+pub mod SurveyFile
+pub mod Accepted
+pub mod MarkCalls
+pub mod FileCalls
+pub mod RoundTrip
+pub mod Series
+pub mod Demand
+pub mod Starred
+pub mod StarListing

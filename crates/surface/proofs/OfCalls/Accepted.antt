@@ -1,0 +1,177 @@
+-- What acceptance says of each call: its lists and numbers are those of a plot.
+use Prim.Native.Nat.{ℕ, _*_, _-_, _<_, _≤_}
+use native.Mathlib.Omega.{arith}
+use mathlib.Core.Path.{_≡_, _∙_, ap}
+use mathlib.Core.Bool.{Bool, true, false, not}
+use mathlib.Core.List.{List, [], _∷_}
+use borrow.Author.Tests.{ltb-true, ltb-false, eqb-true, eq-eqb, lt-ltb, le-ltb, not-false}
+use lib.Dec.{ltb, eqb}
+use lib.IntN.{ℤ}
+use lib.ListN.{length, getD}
+use Rattle.surface.specs.Lists.{firstNot}
+use Rattle.surface.specs.Plot.{Plot, posts, isHeight, Sides, Valid}
+use Rattle.surface.specs.Marks.{markAt}
+use Rattle.surface.specs.Lines.{Descent, runsOf, line}
+use Rattle.surface.specs.SurveyFile.{statedCount, countFor, fileSize, isTenths, tenthsOf}
+use Rattle.surface.specs.Refusals.{accepted, verdict, row1, row2, row4, surveyVerdict, reshootVerdict, lineVerdict, partsVerdict, readVerdict, writeVerdict}
+use Rattle.surface.proofs.General.Bools.{or-left, or-right}
+use Rattle.surface.proofs.General.FirstNot.{firstNot-le, ranged-all, all-firstNot}
+use Rattle.surface.proofs.AnyOrder.Grid.{test-sides, sides-test}
+use Rattle.surface.proofs.OfCalls.Verdicts.{passed, row-passed, none-left}
+use Rattle.surface.proofs.OfCalls.SurveyFile.{length-tenthsOf}
+
+-- tests that a row makes, as equations
+equal : (m n : ℕ) → not (eqb m n) ≡ false → m ≡ n
+equal m n e = eqb-true m n (not-false _ e)
+
+same : (m n : ℕ) → m ≡ n → not (eqb m n) ≡ false
+same m n e = ap not (eq-eqb m n e)
+
+-- the sides and the size of an accepted plot
+pub plot-sized : (pl : Plot) → verdict (row1 pl.rows pl.columns ∷ row2 pl ∷ []) .code ≡ 0 → Sides pl.rows pl.columns × (length pl.heights ≡ posts pl)
+plot-sized pl e = let row = passed (row1 pl.rows pl.columns ∷ row2 pl ∷ []) tt e in (test-sides _ _ (not-false _ (row 1)), equal _ _ (row 2))
+
+module _ (pl : Plot) where
+  valid : row1 pl.rows pl.columns .holds ≡ false → row2 pl .holds ≡ false → row4 isHeight pl.heights .holds ≡ false → Valid pl
+  valid a b c = record { sides = test-sides _ _ (not-false _ a); size = equal _ _ b; inRange = ranged-all isHeight pl.heights c }
+
+  -- a survey is accepted exactly of a plot and as many marks
+  pub record ForSurvey (marks : List ℕ) : Type 0 where
+    pub valid : Valid pl
+    pub marksSize : length marks ≡ posts pl
+
+  pub survey-valid : (marks : List ℕ) → surveyVerdict pl marks .code ≡ 0 → ForSurvey marks
+  unfolding surveyVerdict
+  survey-valid marks e = let row = passed _ tt e in record { valid = valid (row 1) (row 2) (row 4); marksSize = equal _ _ (row 3) }
+
+  -- a re-shoot of a plot, as many marks, one of its posts and a height
+  pub record ForReshoot (marks : List ℕ) (post : ℕ) (new : ℤ) : Type 0 where
+    pub valid : Valid pl
+    pub marksSize : length marks ≡ posts pl
+    pub postIn : post < posts pl
+    pub inRange : isHeight new ≡ true
+
+  pub reshoot-valid : (marks : List ℕ) (post : ℕ) (new : ℤ) → reshootVerdict pl marks post new .code ≡ 0 → ForReshoot marks post new
+  unfolding reshootVerdict
+  reshoot-valid marks post new e =
+      let row = passed _ tt e in
+      record {
+        valid = valid (row 1) (row 2) (row 4);
+        marksSize = equal _ _ (row 3);
+        postIn = ltb-true post (posts pl) (not-false _ (row 5));
+        inRange = not-false (isHeight new) (row 6);
+      }
+
+  -- a line of a saddle, one of its runs, and a list that has room
+  pub record ForLine (d : Descent) (post run : ℕ) (list : List ℕ) : Type 0 where
+    pub postIn : post < posts pl
+    pub saddle : 3 ≤ markAt pl post
+    pub runIn : run < length (runsOf d post)
+    pub room : length (line d (posts pl) post run) ≤ length list
+
+  pub line-valid : (d : Descent) (post run : ℕ) (list : List ℕ) → lineVerdict pl d post run list .code ≡ 0 → ForLine d post run list
+  unfolding lineVerdict
+  line-valid d post run list e =
+      let row = passed _ tt e in
+      record {
+        postIn = ltb-true post (posts pl) (not-false _ (row 5));
+        saddle = ltb-false (markAt pl post) 3 (row 7);
+        runIn = ltb-true run _ (not-false _ (row 8));
+        room = ltb-false (length list) _ (row 9);
+      }
+
+  -- and the other way: where all this is given, the call is accepted
+  module _ (v : Valid pl) where
+    pub row1-passes : row1 pl.rows pl.columns .holds ≡ false
+    row1-passes = ap not (sides-test (v .sides))
+
+    pub row2-passes : row2 pl .holds ≡ false
+    row2-passes = same _ _ (v .size)
+
+    pub row4-passes : row4 isHeight pl.heights .holds ≡ false
+    row4-passes = rw (all-firstNot isHeight pl.heights (v .inRange)) (le-ltb (length pl.heights) (length pl.heights) (omega arith))
+
+    pub valid-survey : (marks : List ℕ) → length marks ≡ posts pl → surveyVerdict pl marks ≡ accepted
+    unfolding surveyVerdict
+    valid-survey marks h = row-passed _ _ row1-passes ∙ row-passed _ _ row2-passes ∙ row-passed _ _ (same _ _ h) ∙ row-passed _ _ row4-passes ∙ none-left
+
+    pub valid-line : (d : Descent) (post run : ℕ) (list : List ℕ) → ForLine d post run list → lineVerdict pl d post run list ≡ accepted
+    unfolding lineVerdict
+    valid-line d post run list f =
+        row-passed _ _ row1-passes
+        ∙ row-passed _ _ row2-passes
+        ∙ row-passed _ _ row4-passes
+        ∙ row-passed _ _ (ap not (lt-ltb post (posts pl) (f .postIn)))
+        ∙ row-passed _ _ (le-ltb (markAt pl post) 3 (f .saddle))
+        ∙ row-passed _ _ (ap not (lt-ltb run _ (f .runIn)))
+        ∙ row-passed _ _ (le-ltb (length list) _ (f .room))
+        ∙ none-left
+
+    pub valid-parts : (dales hills : List ℕ) → length dales ≡ posts pl → length hills ≡ posts pl → partsVerdict pl dales hills ≡ accepted
+    unfolding partsVerdict
+    valid-parts dales hills h k =
+        row-passed _ _ row1-passes
+        ∙ row-passed _ _ row2-passes
+        ∙ row-passed _ _ (rw (same _ _ h) (same _ _ k))
+        ∙ row-passed _ _ row4-passes
+        ∙ none-left
+
+  -- a file is written of a plot, into a list of its size
+  pub record ForWrite (file : List ℕ) : Type 0 where
+    pub valid : Valid pl
+    pub room : length file ≡ fileSize pl.rows pl.columns
+
+  pub write-valid : (file : List ℕ) → writeVerdict pl file .code ≡ 0 → ForWrite file
+  unfolding writeVerdict
+  write-valid file e = let row = passed _ tt e in record { valid = valid (row 1) (row 2) (row 4); room = equal _ _ (row 3) }
+
+-- the bytes of rows and of columns, and the posts that they say
+abbrev pub rowsIn : List ℕ → ℕ
+rowsIn file = getD file 5 0
+
+abbrev pub columnsIn : List ℕ → ℕ
+columnsIn file = getD file 6 0
+
+abbrev pub postsIn : List ℕ → ℕ
+postsIn file = rowsIn file * columnsIn file
+
+-- what an accepted read found
+pub record ForRead (file : List ℕ) (hs : List ℤ) : Type 0 where
+  pub version : getD file 0 0 ≡ 1
+  pub sides : Sides (rowsIn file) (columnsIn file)
+  pub stated : statedCount file ≡ countFor (rowsIn file) (columnsIn file)
+  pub size : length file ≡ fileSize (rowsIn file) (columnsIn file)
+  pub room : length hs ≡ postsIn file
+  pub tenths : firstNot isTenths (tenthsOf file (postsIn file)) ≡ postsIn file
+
+module _ (file : List ℕ) (hs : List ℤ) where
+  none : (isIn : ℤ → Bool) (zs : List ℤ) → ltb (firstNot isIn zs) (length zs) ≡ false → firstNot isIn zs ≡ length zs
+  none isIn zs e = omega (arith, firstNot-le isIn zs, ltb-false (firstNot isIn zs) (length zs) e)
+
+  pub read-valid : readVerdict file hs .code ≡ 0 → ForRead file hs
+  unfolding readVerdict
+  read-valid e =
+      let row = passed _ tt e in
+      let long : 7 ≤ length file = ltb-false _ _ (row 10) in
+      let present : statedCount file ≡ length file - 5 = equal _ _ (or-left (not (eqb (statedCount file) (length file - 5))) _ (row 12)) in
+      let stated : statedCount file ≡ countFor (rowsIn file) (columnsIn file) = equal _ _ (or-right (not (eqb (statedCount file) (length file - 5))) _ (row 12)) in
+      record {
+        version = equal _ _ (row 11);
+        sides = test-sides _ _ (not-false _ (row 1));
+        stated = stated;
+        size = omega arith;
+        room = equal _ _ (row 3);
+        tenths = none isTenths (tenthsOf file (postsIn file)) (row 4) ∙ length-tenthsOf file (postsIn file);
+      }
+
+  pub valid-read : ForRead file hs → readVerdict file hs ≡ accepted
+  unfolding readVerdict
+  valid-read r =
+      let present : statedCount file ≡ length file - 5 = omega (arith, r .stated, r .size) in
+      row-passed _ _ (le-ltb (length file) 7 (omega (arith, r .size)))
+      ∙ row-passed _ _ (same (getD file 0 0) 1 (r .version))
+      ∙ row-passed _ _ (ap not (sides-test (r .sides)))
+      ∙ row-passed _ _ (rw (same (statedCount file) (length file - 5) present) (same _ _ (r .stated)))
+      ∙ row-passed _ _ (same (length hs) (postsIn file) (r .room))
+      ∙ row-passed _ _ (le-ltb _ (length (tenthsOf file (postsIn file))) (omega (arith, length-tenthsOf file (postsIn file), r .tenths)))
+      ∙ none-left

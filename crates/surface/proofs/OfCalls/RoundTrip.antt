@@ -1,0 +1,141 @@
+-- A file that is written reads back to the same heights, and a file that is read has exactly its size.
+use Prim.Native.Nat.{ℕ, _+_, _*_, _<_}
+use native.Mathlib.Omega.{arith}
+use mathlib.Core.Path.{_≡_, refl, sym, _∙_, ap}
+use mathlib.Core.Bool.{true}
+use mathlib.Core.List.{List, [], _∷_, _++_, map}
+use lib.IntN.{ℤ, pos, _*ℤ_}
+use lib.ListN.{length, getD, length-map, List·getD-map}
+use lib.Seq.{ext-getD}
+use borrow.Author.Tests.{le-ltb}
+use Rattle.surface.specs.Lists.{all, firstNot}
+use Rattle.surface.specs.Plot.{Plot, plot, posts, isHeight, Valid}
+use Rattle.surface.specs.SurveyFile.{wordAt, statedCount, countFor, fileSize, signed, bytesOf, isTenths, tenthsOf, rounded, heightsIn, filedHeights, fileOf}
+use Rattle.surface.specs.Refusals.{readVerdict}
+use Rattle.surface.specs.Calls.{readAnswer, readHeights, writeAnswer, writeFile}
+use Rattle.surface.proofs.OfCalls.FileCalls.{read-code, read-served, read-filled, write-filled}
+use Rattle.surface.proofs.General.FirstNot.{firstNot-map, ranged-all, all-firstNot, all-at}
+use Rattle.surface.proofs.OfCalls.SurveyFile.{length-tenthsOf, getD-tenthsOf, wordAt-skip, wordAt-bytesOf, wordAt-filed, length-filedHeights, signed-unsigned, mag-tenfold, isTenths-tenfold, rounded-tenfold, isHeight-rounded}
+use Rattle.surface.proofs.OfCalls.Accepted.{postsIn, ForRead, ForWrite, read-valid, valid-read, write-valid}
+
+map-rounded : (zs : List ℤ) → map rounded (map (λ z. z *ℤ pos 10) zs) ≡ zs
+map-rounded [] = refl
+map-rounded (z ∷ zs) = rw (rounded-tenfold z, map-rounded zs)
+
+-- the file of an accepted write
+module _ (pl : Plot) (file : List ℕ) (w : ForWrite pl file) where
+  head : List ℕ
+  head = 1 ∷ bytesOf (countFor pl.rows pl.columns) ++ pl.rows ∷ pl.columns ∷ []
+
+  -- a written file is its seven first bytes and the heights
+  parts : fileOf pl ≡ head ++ filedHeights pl.heights
+  unfolding fileOf head bytesOf
+  parts = refl
+
+  length-head : length head ≡ 7
+  unfolding head bytesOf
+  length-head = refl
+
+  tenth : (i : ℕ) → i < length pl.heights → signed (wordAt (fileOf pl) (7 + 4 * i)) ≡ getD pl.heights i (pos 0) *ℤ pos 10
+  tenth i h =
+      let e : isHeight (getD pl.heights i (pos 0)) ≡ true = all-at isHeight pl.heights (pos 0) refl (w .valid .inRange) i in
+      rw
+      (parts, wordAt-skip head (filedHeights pl.heights) (7 + 4 * i) (4 * i) (omega (arith, length-head)), wordAt-filed pl.heights (pos 0) i h e)
+      (signed-unsigned (getD pl.heights i (pos 0) *ℤ pos 10) (mag-tenfold (getD pl.heights i (pos 0)) e))
+
+  -- the filed heights are ten times the heights
+  tenths : tenthsOf (fileOf pl) (length pl.heights) ≡ map (λ z. z *ℤ pos 10) pl.heights
+  tenths =
+      ext-getD
+      (pos 0)
+      _
+      _
+      (length-tenthsOf (fileOf pl) (length pl.heights) ∙ sym (length-map pl.heights (λ z. z *ℤ pos 10)))
+      (λ i h.
+      let k : i < length pl.heights = rw (length-tenthsOf (fileOf pl) (length pl.heights)) at h in
+      getD-tenthsOf (fileOf pl) (length pl.heights) i k ∙ tenth i k ∙ sym (List·getD-map (λ z. z *ℤ pos 10) pl.heights i (pos 0)))
+
+  stated : statedCount (fileOf pl) ≡ countFor pl.rows pl.columns
+  unfolding statedCount fileOf
+  stated =
+      wordAt-skip (1 ∷ []) (bytesOf (countFor pl.rows pl.columns) ++ pl.rows ∷ pl.columns ∷ filedHeights pl.heights) 1 0 refl
+      ∙ wordAt-bytesOf (countFor pl.rows pl.columns) (pl.rows ∷ pl.columns ∷ filedHeights pl.heights) (omega (arith, w .valid .sides))
+
+  in-range : firstNot isTenths (tenthsOf (fileOf pl) (posts pl)) ≡ posts pl
+  in-range = rw (← w .valid .size, tenths) (firstNot-map isHeight isTenths (λ z. z *ℤ pos 10) isTenths-tenfold pl.heights (all-firstNot isHeight pl.heights (w .valid .inRange)) ∙ length-map pl.heights (λ z. z *ℤ pos 10))
+
+  read-back : heightsIn (fileOf pl) (posts pl) ≡ pl.heights
+  unfolding heightsIn
+  read-back = rw (← w .valid .size, tenths) (map-rounded pl.heights)
+
+  pub written-readable : (out : List ℤ) → length out ≡ posts pl → ForRead (fileOf pl) out
+  unfolding fileOf bytesOf
+  written-readable out h =
+      record {
+        version = refl;
+        sides = w .valid .sides;
+        stated = stated;
+        size = omega (arith, length-filedHeights pl.heights, w .valid .size);
+        room = h;
+        tenths = in-range;
+      }
+
+-- "The count is 2 + 4 times rows times columns": every file that reading accepts is exactly as long as its rows and columns say.
+pub read-size : (file : List ℕ) (out : List ℤ) → readAnswer file out .code ≡ 0 → length file ≡ fileSize (readAnswer file out .rows) (readAnswer file out .columns)
+read-size file out e =
+    let v = sym (read-code file out) ∙ e in
+    rw (read-served file out v) (read-valid file out v .size)
+
+same-verdict : (file : List ℕ) (out old : List ℤ) → length out ≡ length old → readVerdict file out ≡ readVerdict file old
+unfolding readVerdict
+same-verdict file out old e = rw e
+
+-- What reading answers and fills in hangs on the file and the number of heights, and not on what the list held before.
+pub read-fresh :
+    (file : List ℕ) (out old : List ℤ)
+    → length out ≡ length old
+    → (readAnswer file out ≡ readAnswer file old) × (readAnswer file out .code ≡ 0 → readHeights file out ≡ readHeights file old)
+read-fresh file out old e = (answers, heights)
+  where
+    answers : readAnswer file out ≡ readAnswer file old
+    answers = unfold readAnswer in rw (same-verdict file out old e)
+
+    heights : readAnswer file out .code ≡ 0 → readHeights file out ≡ readHeights file old
+    heights c =
+        let v = sym (read-code file out) ∙ c in
+        let u : readVerdict file old .code ≡ 0 = rw (same-verdict file out old e) at v in
+        read-filled file out v ∙ ap (heightsIn file) e ∙ sym (read-filled file old u)
+
+length-heightsIn : (file : List ℕ) (n : ℕ) → length (heightsIn file n) ≡ n
+unfolding heightsIn
+length-heightsIn file n = length-map (tenthsOf file n) rounded ∙ length-tenthsOf file n
+
+heightsIn-high : (file : List ℕ) (n : ℕ) → firstNot isTenths (tenthsOf file n) ≡ n → all isHeight (heightsIn file n) ≡ true
+unfolding heightsIn
+heightsIn-high file n e =
+    let k = firstNot-map isTenths isHeight rounded isHeight-rounded (tenthsOf file n) (e ∙ sym (length-tenthsOf file n)) in
+    let l = map rounded (tenthsOf file n) in
+    ranged-all isHeight l (le-ltb (firstNot isHeight l) (length l) (omega (arith, k)))
+
+-- An accepted read leaves a plot that every other call takes.
+pub read-plot : (file : List ℕ) (out : List ℤ) → readAnswer file out .code ≡ 0
+    → Valid (plot (readAnswer file out .rows) (readAnswer file out .columns) (readHeights file out))
+read-plot file out e =
+    let v = sym (read-code file out) ∙ e in
+    let r = read-valid file out v in
+    rw (read-served file out v, read-filled file out v, r .room)
+    (record { sides = r .sides; size = length-heightsIn file (postsIn file); inRange = heightsIn-high file (postsIn file) (r .tenths) })
+
+-- "A file we write reads back to the same millimetre heights": into any list of as many heights, with the same rows and columns.
+pub round-trip :
+    (pl : Plot) (file : List ℕ) (out : List ℤ)
+    → writeAnswer pl file .code ≡ 0
+    → length out ≡ posts pl
+    → (readAnswer (writeFile pl file) out ≡ record { code = 0; place = 0; rows = pl.rows; columns = pl.columns })
+    × (readHeights (writeFile pl file) out ≡ pl.heights)
+unfolding writeAnswer fileOf bytesOf
+round-trip pl file out e h =
+    let w = write-valid pl file e in
+    let r = valid-read (fileOf pl) out (written-readable pl file w out h) in
+    rw (write-filled pl file e, read-served (fileOf pl) out (ap (λ v. v .code) r), read-filled (fileOf pl) out (ap (λ v. v .code) r), h)
+    (refl, read-back pl file w)

@@ -1,0 +1,42 @@
+-- The example plots, by computation.
+use mathlib.Core.Path.{refl}
+use Rattle.surface.specs.Lists.{listOf, filter, any, all, takeWhile, lastOr, count, total, firstNot}
+use Rattle.surface.specs.Plot.{virtualPit, below}
+use Rattle.surface.specs.Edges.{lowest, lowestOr, throughLowest, members, places, ring, ringOf, runs, runsFrom}
+use Rattle.surface.specs.Marks.{markFor, mark, markAt, marksOf, peaks, pits, saddles}
+use Rattle.surface.specs.Lines.{isEnd, next, walk, line}
+use Rattle.surface.specs.SurveyFile.{wordAt, signed, statedCount, tenthsOf, rounded, heightsIn}
+use Rattle.surface.specs.Refusals.{verdict, surveyVerdict, lineVerdict, readVerdict}
+use Rattle.surface.specs.Calls.{surveyAnswer, surveyMarks, thalwegAnswer, thalwegList, ridgeAnswer, ridgeList, readAnswer, readHeights}
+use Rattle.surface.specs.Bench.{Starred}
+
+pub starred : Starred
+unfolding listOf filter any all takeWhile lastOr count total firstNot virtualPit below lowest lowestOr throughLowest members places ring runs runsFrom markFor mark markAt marksOf ringOf peaks pits saddles isEnd next walk line wordAt signed statedCount tenthsOf rounded heightsIn verdict surveyVerdict lineVerdict readVerdict surveyAnswer surveyMarks thalwegAnswer thalwegList ridgeAnswer ridgeList readAnswer readHeights
+starred =
+    record {
+      flatMarks = refl;
+      flatCounts = refl;
+      crossedMarks = refl;
+      crossedCounts = refl;
+      crossedLine = refl;
+      crossedCount = refl;
+      crossedExact = refl;
+      crossedExactCount = refl;
+      crossedShort = refl;
+      crossedShortList = refl;
+      starMark = refl;
+      starLine = refl;
+      starCount = refl;
+      starExact = refl;
+      starExactCount = refl;
+      crossedRun = refl;
+      crossedRunUp = refl;
+      crossedRunList = refl;
+      crossedRunUpList = refl;
+      hollowPit = refl;
+      hollowSaddle = refl;
+      hollowPeak = refl;
+      hollowCounts = refl;
+      roundings = refl;
+      roundingsRead = refl;
+    }

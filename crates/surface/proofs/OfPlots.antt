@@ -1,0 +1,4 @@
+-- The height order, diagonals and picks of a plot are such as the laws over any order ask for.
+pub mod HeightOrder
+pub mod Instance
+pub mod Redrawn
