@@ -1,0 +1,99 @@
+// What a plot and a height may be, and the rows of the table of refusals that say so.
+use surface::Answer;
+use surface::HIGHEST;
+use surface::LOWEST;
+use surface::MAX_SIDE;
+ghost use mathlib.Core.Path.{_≡_};
+ghost use mathlib.Core.Bool.{_&&_};
+ghost use mathlib.Core.List.{[], _∷_};
+ghost use Prim.Native.Nat.{_≤_};
+ghost use lib.ListN.{length};
+ghost use Rattle.surface.specs.Lists.{all, firstNot};
+ghost use Rattle.surface.specs.Plot.{plot, maxPosts, isSide, isHeight};
+ghost use Rattle.surface.specs.Refusals.{verdict, row1, row2, row4, row5};
+
+// Whether a plot may have these sides.
+pub fn is_plot(rows: u32, columns: u32) -> bool
+    ensures { λ r. ⌜ r ≡ (isSide rows && isSide columns) ⌝ }
+{
+    ((2 <= rows) & (rows as usize <= MAX_SIDE)) & ((2 <= columns) & (columns as usize <= MAX_SIDE))
+}
+
+// Whether a height is in range.
+pub fn is_height(h: i32) -> bool
+    ensures { λ r. ⌜ r ≡ isHeight h ⌝ }
+{
+    !(h < LOWEST) & !(HIGHEST < h)
+}
+
+// The first post whose height is out of range, the number of heights where none is.
+fn first_out(heights: &[i32]) -> usize
+    ensures { λ r. ⌜ r ≡ firstNot isHeight (now (heights .entry)) ⌝ }
+{
+    let mut i = 0;
+    while i < heights.len() {
+        if !is_height(heights[i]) {
+            return i;
+        }
+        i += 1;
+    }
+    i
+}
+
+// Whether every height is in range: a pass with no branch, so that the compiler makes vector code of it.
+fn all_in(heights: &[i32]) -> bool
+    ensures { λ r. ⌜ r ≡ all isHeight (now (heights .entry)) ⌝ }
+{
+    let mut ok = true;
+    let mut i = 0;
+    while i < heights.len() {
+        ok = ok & is_height(heights[i]);
+        i += 1;
+    }
+    ok
+}
+
+// Rows 1 and 2 of the table, which lead every call over a plot.
+pub fn plot_verdict(rows: u32, columns: u32, heights: &[i32]) -> Answer
+    ensures { λ r. ⌜ r ≡ verdict (row1 rows columns ∷ row2 (plot rows columns (now (heights .entry))) ∷ []) ⌝ }
+{
+    if !is_plot(rows, columns) {
+        return Answer { code: 1, place: 0 };
+    }
+    if heights.len() != (rows * columns) as usize {
+        return Answer { code: 2, place: 0 };
+    }
+    Answer { code: 0, place: 0 }
+}
+
+// Row 4.
+pub fn heights_verdict(heights: &[i32]) -> Answer
+    requires { ⌜ length (now heights) ≤ maxPosts ⌝ }
+    ensures { λ r. ⌜ r ≡ verdict (row4 isHeight (now (heights .entry)) ∷ []) ⌝ }
+{
+    if all_in(heights) {
+        return Answer { code: 0, place: 0 };
+    }
+    Answer {
+        code: 4,
+        place: first_out(heights) as u32,
+    }
+}
+
+// Rows 1, 2, 4 and 5, which lead the calls that start from a post.
+pub fn post_verdict(rows: u32, columns: u32, heights: &[i32], post: u32) -> Answer
+    ensures { λ r. ⌜ r ≡ verdict (row1 rows columns ∷ row2 (plot rows columns (now (heights .entry))) ∷ row4 isHeight (now (heights .entry)) ∷ row5 (plot rows columns (now (heights .entry))) post ∷ []) ⌝ }
+{
+    let size = plot_verdict(rows, columns, heights);
+    if size.code != 0 {
+        return size;
+    }
+    let range = heights_verdict(heights);
+    if range.code != 0 {
+        return range;
+    }
+    if rows * columns <= post {
+        return Answer { code: 5, place: 0 };
+    }
+    Answer { code: 0, place: 0 }
+}
