@@ -7,10 +7,13 @@ use lib.Dec.{T, eqb}
 use Rattle.surface.specs.Lists.{keep, all, takeWhile, lastOr}
 use Rattle.surface.specs.Plot.{Plot, row, column, virtualPit, below, reversed}
 
--- the lowest of x and the members of a list, in an order
+-- the lower of two, in an order, and the lowest of x and the members of a list
+abbrev pub lowerOf : (ℕ → ℕ → Bool) → ℕ → ℕ → ℕ
+lowerOf lower x y = cond (lower y x) y x
+
 unfoldable pub lowestOr : (ℕ → ℕ → Bool) → ℕ → List ℕ → ℕ
 lowestOr lower x [] = x
-lowestOr lower x (y ∷ l) = lowestOr lower (cond (lower y x) y x) l
+lowestOr lower x (y ∷ l) = lowestOr lower (lowerOf lower x y) l
 
 -- the lowest member of a list (an empty one has none; no call asks for it)
 unfoldable pub lowest : (ℕ → ℕ → Bool) → List ℕ → ℕ

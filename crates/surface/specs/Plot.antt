@@ -88,3 +88,8 @@ pub record Valid (pl : Plot) : Type 0 where
   pub sides : Sides pl.rows pl.columns
   pub size : length pl.heights ≡ posts pl
   pub inRange : all isHeight pl.heights ≡ true
+
+-- a post of such a plot
+pub record PostOf (pl : Plot) (p : ℕ) : Type 0 where
+  pub valid : Valid pl
+  pub post : p < posts pl

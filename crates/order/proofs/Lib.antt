@@ -1,0 +1,2 @@
+-- One comparison of heights settles the order of two posts of which it is known which is lower where they are level.
+pub mod Level

@@ -1,0 +1,15 @@
+-- The law of two posts in the order of their numbers.
+use mathlib.Core.Path.{sym}
+use native.Mathlib.Omega.{arith}
+use Rattle.order.proofs.Level.{earlier-below}
+use Rattle.order.proofs.earlier_is_below.Statement.{statement}
+use Rattle.order.proofs.earlier_is_below.Tie as tie
+
+is-less-requires : tie.Need-is-less-requires
+is-less-requires c κs = omega (arith, c .pre .0)
+
+returns : tie.Need-returns
+returns c = rw (c .is-less .ensures) (sym (earlier-below (c .before .pre .0) (c .before .pre .1)))
+
+pub earlier-is-below-spec : {M : Type 1} → statement M
+earlier-is-below-spec = tie.close (tie.spec is-less-requires returns)

@@ -1,0 +1,75 @@
+// The height order of a plot. Nothing else compares two heights to tell which post is below.
+use surface::Grid;
+use surface::VIRTUAL_PIT;
+ghost use mathlib.Core.Path.{_≡_};
+ghost use mathlib.Core.Bool.{true, cond};
+ghost use Prim.Native.Nat.{_+_, _-_, _<_, _≤_};
+ghost use lib.IntN.{pos};
+ghost use lib.Signed.{ltZ};
+ghost use lib.ListN.{length, getD};
+ghost use Rattle.surface.specs.Plot.{plotOf, posts, Vertex, below, Valid, PostOf};
+ghost use Rattle.surface.specs.Edges.{lowerOf};
+ghost use Rattle.surface.specs.Lines.{toward};
+
+// The height of p is less than that of q.
+fn is_less(heights: &[i32], p: usize, q: usize) -> bool
+    requires { ⌜ (p < length (now heights)) × (q < length (now heights)) ⌝ }
+    ensures { λ r. ⌜ r ≡ ltZ (getD (now (heights .entry)) p (pos 0)) (getD (now (heights .entry)) q (pos 0)) ⌝ }
+{
+    heights[p] < heights[q]
+}
+
+// Post q, the lower of the two where they are level, is below p.
+pub fn earlier_is_below(heights: &[i32], grid: Grid, p: usize, q: usize) -> bool
+    requires { ⌜ PostOf (plotOf grid (now heights)) p × (q < p) ⌝ }
+    ensures { λ r. ⌜ r ≡ below (plotOf grid (now (heights .entry))) q p ⌝ }
+{
+    !is_less(heights, p, q)
+}
+
+// Post q, the higher of the two where they are level, is below p.
+pub fn later_is_below(heights: &[i32], grid: Grid, p: usize, q: usize) -> bool
+    requires { ⌜ PostOf (plotOf grid (now heights)) q × (p < q) ⌝ }
+    ensures { λ r. ⌜ r ≡ below (plotOf grid (now (heights .entry))) q p ⌝ }
+{
+    is_less(heights, q, p)
+}
+
+// Vertex p, a post or the virtual pit, is below vertex q.
+pub fn is_below(heights: &[i32], grid: Grid, p: usize, q: usize) -> bool
+    requires { ⌜ Valid (plotOf grid (now heights)) × Vertex (posts (plotOf grid (now heights))) p × Vertex (posts (plotOf grid (now heights))) q ⌝ }
+    ensures { λ r. ⌜ r ≡ below (plotOf grid (now (heights .entry))) p q ⌝ }
+{
+    if q == VIRTUAL_PIT {
+        return false;
+    }
+    if p == VIRTUAL_PIT {
+        return true;
+    }
+    if p < q {
+        return earlier_is_below(heights, grid, q, p);
+    }
+    is_less(heights, p, q)
+}
+
+// p is below q, or above it where `up`.
+pub fn is_lower(heights: &[i32], grid: Grid, up: bool, p: usize, q: usize) -> bool
+    requires { ⌜ Valid (plotOf grid (now heights)) × Vertex (posts (plotOf grid (now heights))) p × Vertex (posts (plotOf grid (now heights))) q ⌝ }
+    ensures { λ r. ⌜ r ≡ toward up (plotOf grid (now (heights .entry))) .lower p q ⌝ }
+{
+    if up {
+        return is_below(heights, grid, q, p);
+    }
+    is_below(heights, grid, p, q)
+}
+
+// The lower of p and q, the higher where `up`; p where neither is.
+pub fn lower_of(heights: &[i32], grid: Grid, up: bool, p: usize, q: usize) -> usize
+    requires { ⌜ Valid (plotOf grid (now heights)) × Vertex (posts (plotOf grid (now heights))) p × Vertex (posts (plotOf grid (now heights))) q ⌝ }
+    ensures { λ r. ⌜ r ≡ lowerOf (toward up (plotOf grid (now (heights .entry))) .lower) p q ⌝ }
+{
+    if is_lower(heights, grid, up, q, p) {
+        return q;
+    }
+    p
+}
