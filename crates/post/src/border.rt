@@ -1,8 +1,10 @@
 // On which borders a post stands.
 use surface::Grid;
 ghost use mathlib.Core.Path.{_≡_};
+ghost use Prim.Native.Nat.{_*_, _<_};
+ghost use Rattle.surface.specs.Plot.{Sides};
 ghost use Rattle.surface.specs.Edges.{isBorder};
-ghost use Rattle.post.specs.Places.{Place, bordersOf};
+ghost use Rattle.post.specs.Corners.{bordersOf};
 
 pub struct Borders {
     pub top: bool,
@@ -12,8 +14,8 @@ pub struct Borders {
 }
 
 pub fn borders_of(grid: Grid, p: usize) -> Borders
-    requires { ⌜ Place grid p ⌝ }
-    ensures { λ r. ⌜ r ≡ bordersOf grid p ⌝ }
+    requires { ⌜ Sides (grid .rows) (grid .columns) × (p < grid .rows * grid .columns) ⌝ }
+    ensures { λ r. ⌜ r ≡ bordersOf (grid .rows) (grid .columns) p ⌝ }
 {
     let row = p / grid.columns;
     let column = p % grid.columns;
@@ -27,7 +29,7 @@ pub fn borders_of(grid: Grid, p: usize) -> Borders
 
 // The post stands on some border.
 pub fn is_border(grid: Grid, p: usize) -> bool
-    requires { ⌜ Place grid p ⌝ }
+    requires { ⌜ Sides (grid .rows) (grid .columns) × (p < grid .rows * grid .columns) ⌝ }
     ensures { λ r. ⌜ r ≡ isBorder (grid .rows) (grid .columns) p ⌝ }
 {
     let at = borders_of(grid, p);

@@ -7,6 +7,7 @@ pub mod Offsets
 pub mod RingOnce
 pub mod Order
 pub mod Lowest
+pub mod CellFlags
 pub mod Runs
 pub mod RunMembers
 pub mod Signs

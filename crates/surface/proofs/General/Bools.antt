@@ -1,7 +1,11 @@
 -- What Bool tests tell of their parts; case distinction on a test; tests as types.
+use Prim.Native.Nat.{_≤_}
+use native.Mathlib.Omega.{arith}
 use mathlib.Core.Path.{_≡_, refl, sym}
 use mathlib.Core.Bool.{Bool, true, false, _&&_, _||_, true≢false}
 use lib.Dec.{T}
+use mir.Val.{boolByte}
+use Rattle.surface.specs.Lists.{one}
 
 pub and-left : (a b : Bool) → a && b ≡ true → a ≡ true
 and-left true b h = refl
@@ -35,3 +39,8 @@ pub same-test : (a b : Bool) → (a ≡ true → b ≡ true) → (b ≡ true →
 same-test true b f g = sym (f refl)
 same-test false true f g = g refl
 same-test false false f g = refl
+
+-- a flag as a number
+pub flag : (x : Bool) → (boolByte x ≡ one x) × (boolByte x ≤ 1)
+flag true = (refl, omega arith)
+flag false = (refl, omega arith)

@@ -1,0 +1,20 @@
+-- What is asked of a post that is there goes on to the comparison.
+use native.Mathlib.Omega.{arith}
+use borrow.Author.Needs.{needs}
+use Rattle.post.proofs.sign.back.Statement.{statement}
+use Rattle.post.proofs.sign.back.Tie as tie
+
+sub-earlier-is-below : tie.Need-sub-earlier-is-below
+sub-earlier-is-below c = omega (arith, c .before .pre .1 (c .if1 .taken))
+
+earlier-is-below-requires : tie.Need-earlier-is-below-requires
+earlier-is-below-requires c κs = (c .before .pre .0, omega (arith, c .before .pre .1 (c .if1 .taken)))
+
+returns : tie.Need-returns
+returns c = rw (c .before .if1 .taken) (c .earlier-is-below .ensures)
+
+returns-2 : tie.Need-returns-2
+returns-2 c = search needs
+
+pub back-spec : {M : Type 1} → statement M
+back-spec = tie.close (tie.spec sub-earlier-is-below earlier-is-below-requires returns returns-2)

@@ -1,0 +1,36 @@
+// The diagonal of a cell of four posts.
+use order::later_is_below;
+use surface::Grid;
+ghost use mathlib.Core.Path.{_≡_};
+ghost use mathlib.Core.Bool.{true, _&&_};
+ghost use Prim.Native.Nat.{_+_, _-_, _≤_, _<_};
+ghost use Rattle.surface.specs.Plot.{plotOf, posts, Valid};
+ghost use Rattle.surface.specs.Edges.{fallsIn};
+
+// The diagonal of cell a falls: its lowest post is the north-western one, below which none of the others is, or the south-eastern one, which is below
+// them all.
+fn falls(heights: &[i32], grid: Grid, a: usize) -> bool
+    requires { ⌜ Valid (plotOf grid (now heights)) × (a + grid .columns + 1 < posts (plotOf grid (now heights))) ⌝ }
+    ensures { λ r. ⌜ r ≡ fallsIn (plotOf grid (now (heights .entry))) a ⌝ }
+{
+    let east = a + 1;
+    let south = a + grid.columns;
+    let across = south + 1;
+    let e = later_is_below(heights, grid, a, east);
+    let s = later_is_below(heights, grid, a, south);
+    let se = later_is_below(heights, grid, a, across);
+    let east_s = later_is_below(heights, grid, east, across);
+    let south_e = later_is_below(heights, grid, south, across);
+    !e & !s & !se | se & east_s & south_e
+}
+
+// The cell d numbers before p is there, and its diagonal falls.
+pub(crate) fn falls_back(heights: &[i32], grid: Grid, p: usize, d: usize, there: bool) -> bool
+    requires { ⌜ Valid (plotOf grid (now heights)) × (there ≡ true → (d ≤ p) × (p - d + grid .columns + 1 < posts (plotOf grid (now heights)))) ⌝ }
+    ensures { λ r. ⌜ r ≡ there && fallsIn (plotOf grid (now (heights .entry))) (p - d) ⌝ }
+{
+    if there {
+        return falls(heights, grid, p - d);
+    }
+    false
+}
