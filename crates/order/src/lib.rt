@@ -7,9 +7,10 @@ ghost use Prim.Native.Nat.{_+_, _-_, _<_, _≤_};
 ghost use lib.IntN.{pos};
 ghost use lib.Signed.{ltZ};
 ghost use lib.ListN.{length, getD};
-ghost use Rattle.surface.specs.Plot.{plotOf, posts, Vertex, below, Valid, PostOf};
+ghost use Rattle.surface.specs.Plot.{plotOf, posts, maxSide, maxPosts, Vertex, below, Valid, PostOf};
 ghost use Rattle.surface.specs.Edges.{lowerOf};
 ghost use Rattle.surface.specs.Lines.{toward};
+ghost use Rattle.order.specs.Ties.{Near, tiePlace};
 
 // The height of p is less than that of q.
 fn is_less(heights: &[i32], p: usize, q: usize) -> bool
@@ -72,4 +73,20 @@ pub fn lower_of(heights: &[i32], grid: Grid, up: bool, p: usize, q: usize) -> us
         return q;
     }
     p
+}
+
+// The place of q in the block of nine posts round p: of two level posts in it the one with the lower place is lower.
+pub fn tie_place(grid: Grid, p: usize, q: usize) -> u32
+    requires { ⌜ (grid .columns ≤ maxSide) × (q < maxPosts) × Near (grid .columns) p q ⌝ }
+    ensures { λ r. ⌜ (r ≡ tiePlace (grid .columns) p q) × (r < 256) ⌝ }
+{
+    (q + grid.columns + 1 - p) as u32
+}
+
+// The post that has this place.
+pub fn post_at(grid: Grid, p: usize, place: u32) -> usize
+    requires { ⌜ (grid .columns ≤ maxSide) × (p < maxPosts) × (place < 256) × (grid .columns + 1 ≤ p + place) ⌝ }
+    ensures { λ r. ⌜ r ≡ p + place - (grid .columns + 1) ⌝ }
+{
+    p + place as usize - (grid.columns + 1)
 }

@@ -26,7 +26,7 @@ abbrev pub CellsAgree : ℕ → ℕ → (ℕ → Bool) → (ℕ → Bool) → �
 CellsAgree rows columns falls falls′ p = (a : ℕ) (i : Corner) → CornerOf rows columns a i p → falls a ≡ falls′ a
 
 -- a diagonal place of the ring reads its cell's diagonal where the cell is there
-read-agree : (a b : Bool) {x y : Bool} → (a ≡ false → b ≡ false → x ≡ y) → (not a && (not b && x)) ≡ (not a && (not b && y))
+pub read-agree : (a b : Bool) {x y : Bool} → (a ≡ false → b ≡ false → x ≡ y) → (not a && (not b && x)) ≡ (not a && (not b && y))
 read-agree true b same = refl
 read-agree false true same = refl
 read-agree false false same = same refl refl

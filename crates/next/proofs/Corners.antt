@@ -1,0 +1,381 @@
+-- Round a post the diagonals need not be known. Downward every corner may be scanned: where a diagonal does not join p to the post across a cell, the
+-- cell's lowest post stands beside p and is lower than the one across. Upward a corner above p is joined to it exactly where p is the cell's lowest
+-- post, so where both sides of the cell are above p too. Over any strict total order.
+use Prim.Native.Nat.{ℕ, _+_, _-_, _≤_}
+use mathlib.Core.Path.{_≡_, refl, sym, ap, subst, _∙_}
+use mathlib.Core.Logic.{_⊎_, ⊎-elim, inl, inr}
+use mathlib.Core.Bool.{Bool, true, false, cond, not, _&&_, true≢false, or-true, and-false}
+use mathlib.Core.List.{List, [], _∷_, _++_, List·Memᴰ, List·Memᴰ·head, List·Memᴰ·tail, List·Memᴰ·cases-cons, List·Memᴰ·not-nil}
+use native.Mathlib.Omega.{arith}
+use borrow.Author.Tests.{eq-eqb, ne-eqb}
+use Rattle.surface.specs.Plot.{Plot, below, reversed, PostOf}
+use Rattle.surface.specs.Edges.{lowerOf, throughLowest, lowest, Place, place, top, bottom, left, right, isBorder, fallsIn}
+use Rattle.surface.specs.Lines.{next, down, up}
+use Rattle.surface.proofs.General.Bools.{either, or-left, or-right}
+use Rattle.surface.proofs.AnyOrder.Grid.{top-false, bottom-false, not-left}
+use Rattle.surface.proofs.AnyOrder.Locality.{read-agree}
+use Rattle.surface.proofs.AnyOrder.Order.{StrictTotal, reversed-strict}
+use Rattle.surface.proofs.AnyOrder.Lowest.{lowest-member, lowest-least}
+use Rattle.surface.proofs.OfPlots.HeightOrder.{below-strict}
+use Rattle.post.specs.Corners.{bordersOf, Neighbours}
+use Rattle.post.specs.declared.border.Borders.{Borders}
+use Rattle.post.specs.declared.sign.Corners.{Corners}
+use Rattle.post.proofs.Around.{both, south-east, north-west, neighbours}
+use Rattle.next.specs.Scan.{inside, cells, step, scan, turn, everyCorner, cornersAbove}
+use Rattle.next.proofs.Scanned.{to-front, up-is, down-is}
+
+module _ (lower : ℕ → ℕ → Bool) (o : StrictTotal lower) where
+  asym : (a b : ℕ) → lower a b ≡ true → lower b a ≡ false
+  asym a b h = either (lower b a) (λ e. absurd (true≢false (sym (o .trans a b a h e) ∙ o .irrefl a))) (λ e. e)
+
+  -- beside a, which is lower, q is never found
+  hidden : (x a q : ℕ) → lower a q ≡ true → lowerOf lower (lowerOf lower x q) a ≡ lowerOf lower x a
+  hidden x a q h = either (lower q x) (λ e. rw (e, h, o .trans a q x h e)) (λ e. rw e)
+
+  unseen : (x a q : ℕ) (k m : List Place) → lower a q ≡ true → scan lower (lowerOf lower x q) (k ++ place true a ∷ m) ≡ scan lower x (k ++ place true a ∷ m)
+  unseen x a q k m h =
+      to-front lower o (lowerOf lower x q) k (place true a) m
+      ∙ ap (λ (w : ℕ). scan lower w (k ++ m)) (hidden x a q h)
+      ∙ sym (to-front lower o x k (place true a) m)
+
+  -- so it may be scanned where it is not there
+  free : (x q : ℕ) (t : Bool) (k m : List Place) → (t ≡ false → scan lower (lowerOf lower x q) (k ++ m) ≡ scan lower x (k ++ m))
+      → scan lower x (k ++ place t q ∷ m) ≡ scan lower x (k ++ place true q ∷ m)
+  free x q true k m h = refl
+  free x q false k m h = to-front lower o x k (place false q) m ∙ sym (h refl) ∙ sym (to-front lower o x k (place true q) m)
+
+  module _ (columns a : ℕ) (wide : 2 ≤ columns) where
+    abbrev cell : List ℕ
+    cell = a ∷ (a + 1) ∷ (a + columns) ∷ (a + columns + 1) ∷ []
+
+    abbrev low : ℕ
+    low = lowest lower cell
+
+    one-of : {A : Type 0} → (low ≡ a → A) → (low ≡ a + 1 → A) → (low ≡ a + columns → A) → (low ≡ a + columns + 1 → A) → A
+    one-of f g h k =
+        ⊎-elim f
+        (λ (i : List·Memᴰ low ((a + 1) ∷ (a + columns) ∷ (a + columns + 1) ∷ [])).
+        ⊎-elim g
+        (λ (j : List·Memᴰ low ((a + columns) ∷ (a + columns + 1) ∷ [])).
+        ⊎-elim h
+        (λ (l : List·Memᴰ low ((a + columns + 1) ∷ [])).
+        ⊎-elim k (λ (n : List·Memᴰ low []). absurd (List·Memᴰ·not-nil n)) (List·Memᴰ·cases-cons l))
+        (List·Memᴰ·cases-cons j))
+        (List·Memᴰ·cases-cons i))
+        (List·Memᴰ·cases-cons (lowest-member lower a cell (List·Memᴰ·head refl)))
+
+    -- the lowest, b, is below any other
+    under : (b q : ℕ) → low ≡ b → List·Memᴰ q cell → (q ≡ b → ⊥) → lower b q ≡ true
+    under b q i m h =
+        ap (λ (z : ℕ). lower z q) (sym i) ∙ o .other q low (λ j. h (j ∙ i)) ∙ ap not (lowest-least lower o cell q m)
+
+    -- the diagonal, by which post is the lowest
+    told-nw : low ≡ a → throughLowest lower columns a ≡ true
+    unfolding throughLowest
+    told-nw i = rw (eq-eqb low a i)
+
+    told-ne : low ≡ a + 1 → throughLowest lower columns a ≡ false
+    unfolding throughLowest
+    told-ne i = rw (i, ne-eqb (a + 1) a (omega arith), ne-eqb (a + 1) (a + columns + 1) (omega arith))
+
+    told-sw : low ≡ a + columns → throughLowest lower columns a ≡ false
+    unfolding throughLowest
+    told-sw i = rw (i, ne-eqb (a + columns) a (omega arith), ne-eqb (a + columns) (a + columns + 1) (omega arith))
+
+    told-se : low ≡ a + columns + 1 → throughLowest lower columns a ≡ true
+    unfolding throughLowest
+    told-se i = rw (eq-eqb low (a + columns + 1) i, or-true)
+
+    -- a corner of the other diagonal has an end of this one below it
+    rising : {A : Type 0} (q : ℕ) → throughLowest lower columns a ≡ false → List·Memᴰ q cell → (q ≡ a + 1 → ⊥) → (q ≡ a + columns → ⊥)
+        → (lower (a + 1) q ≡ true → A) → (lower (a + columns) q ≡ true → A) → A
+    rising q e m f g ne sw =
+        one-of
+        (λ i. absurd (true≢false (sym (told-nw i) ∙ e)))
+        (λ i. ne (under (a + 1) q i m f))
+        (λ i. sw (under (a + columns) q i m g))
+        (λ i. absurd (true≢false (sym (told-se i) ∙ e)))
+
+    falling : {A : Type 0} (q : ℕ) → throughLowest lower columns a ≡ true → List·Memᴰ q cell → (q ≡ a → ⊥) → (q ≡ a + columns + 1 → ⊥)
+        → (lower a q ≡ true → A) → (lower (a + columns + 1) q ≡ true → A) → A
+    falling q e m f g nw se =
+        one-of
+        (λ i. nw (under a q i m f))
+        (λ i. absurd (true≢false (sym e ∙ told-ne i)))
+        (λ i. absurd (true≢false (sym e ∙ told-sw i)))
+        (λ i. se (under (a + columns + 1) q i m g))
+
+    -- p and q stand across the cell from each other; x and y are the other two
+    record Across (p q x y : ℕ) : Type 0 where
+      pub p-in : List·Memᴰ p cell
+      pub x-in : List·Memᴰ x cell
+      pub y-in : List·Memᴰ y cell
+      pub x-other : x ≡ p → ⊥
+      pub y-other : y ≡ p → ⊥
+      pub one : (low ≡ p) ⊎ ((low ≡ q) ⊎ ((low ≡ x) ⊎ (low ≡ y)))
+
+    -- where q is above p, they are joined exactly where both x and y are above p
+    joined-above : {p q x y : ℕ} (c : Across p q x y) (t : Bool) → (low ≡ p → t ≡ true) → (low ≡ x → t ≡ false) → (low ≡ y → t ≡ false)
+        → lower p q ≡ true → t ≡ lower p x && lower p y
+    joined-above {p} {q} {x} {y} c t tp tx ty h =
+        ⊎-elim (λ (i : low ≡ p). tp i ∙ rw (under p x i (c .x-in) (c .x-other), under p y i (c .y-in) (c .y-other)))
+        (λ (r : (low ≡ q) ⊎ ((low ≡ x) ⊎ (low ≡ y))).
+        ⊎-elim
+        (λ (i : low ≡ q). absurd (true≢false (sym h ∙ asym q p (under q p i (c .p-in) (λ e. true≢false (sym h ∙ ap (lower p) (sym e) ∙ o .irrefl p))))))
+        (λ (r : (low ≡ x) ⊎ (low ≡ y)).
+        ⊎-elim (λ (i : low ≡ x). tx i ∙ rw (asym x p (under x p i (c .p-in) (λ e. c .x-other (sym e)))))
+        (λ (i : low ≡ y). ty i ∙ rw (asym y p (under y p i (c .p-in) (λ e. c .y-other (sym e))), and-false)) r)
+        r)
+        (c .one)
+
+    in-nw : List·Memᴰ a cell
+    in-nw = List·Memᴰ·head refl
+
+    in-ne : List·Memᴰ (a + 1) cell
+    in-ne = List·Memᴰ·tail (List·Memᴰ·head refl)
+
+    in-sw : List·Memᴰ (a + columns) cell
+    in-sw = List·Memᴰ·tail (List·Memᴰ·tail (List·Memᴰ·head refl))
+
+    in-se : List·Memᴰ (a + columns + 1) cell
+    in-se = List·Memᴰ·tail (List·Memᴰ·tail (List·Memᴰ·tail (List·Memᴰ·head refl)))
+
+    -- from each post of the cell to the one across
+    from-nw : lower a (a + columns + 1) ≡ true → throughLowest lower columns a ≡ lower a (a + 1) && lower a (a + columns)
+    from-nw =
+        joined-above
+        (record {
+          p-in = in-nw;
+          x-in = in-ne;
+          y-in = in-sw;
+          x-other = λ e. omega arith;
+          y-other = λ e. omega arith;
+          one = one-of inl (λ i. inr (inr (inl i))) (λ i. inr (inr (inr i))) (λ i. inr (inl i));
+        })
+        _ told-nw told-ne told-sw
+
+    from-ne : lower (a + 1) (a + columns) ≡ true → not (throughLowest lower columns a) ≡ lower (a + 1) (a + columns + 1) && lower (a + 1) a
+    from-ne =
+        joined-above
+        (record {
+          p-in = in-ne;
+          x-in = in-se;
+          y-in = in-nw;
+          x-other = λ e. omega arith;
+          y-other = λ e. omega arith;
+          one = one-of (λ i. inr (inr (inr i))) inl (λ i. inr (inl i)) (λ i. inr (inr (inl i)));
+        })
+        _ (λ i. ap not (told-ne i)) (λ i. ap not (told-se i)) (λ i. ap not (told-nw i))
+
+    from-sw : lower (a + columns) (a + 1) ≡ true → not (throughLowest lower columns a) ≡ lower (a + columns) a && lower (a + columns) (a + columns + 1)
+    from-sw =
+        joined-above
+        (record {
+          p-in = in-sw;
+          x-in = in-nw;
+          y-in = in-se;
+          x-other = λ e. omega arith;
+          y-other = λ e. omega arith;
+          one = one-of (λ i. inr (inr (inl i))) (λ i. inr (inl i)) inl (λ i. inr (inr (inr i)));
+        })
+        _ (λ i. ap not (told-sw i)) (λ i. ap not (told-nw i)) (λ i. ap not (told-se i))
+
+    from-se : lower (a + columns + 1) a ≡ true → throughLowest lower columns a ≡ lower (a + columns + 1) (a + columns) && lower (a + columns + 1) (a + 1)
+    from-se =
+        joined-above
+        (record {
+          p-in = in-se;
+          x-in = in-sw;
+          y-in = in-ne;
+          x-other = λ e. omega arith;
+          y-other = λ e. omega arith;
+          one = one-of (λ i. inr (inl i)) (λ i. inr (inr (inr i))) (λ i. inr (inr (inl i))) inl;
+        })
+        _ told-se told-sw told-ne
+
+  module _ (columns p : ℕ) (wide : 2 ≤ columns) (far : columns + 1 ≤ p) where
+    abbrev falls : ℕ → Bool
+    falls = throughLowest lower columns
+
+    abbrev round : Bool → Bool → Bool → Bool → List Place
+    round ne se sw nw = turn columns p inside (record { ne = ne; se = se; sw = sw; nw = nw })
+
+    -- a post under another name
+    named : (x y q : ℕ) → x ≡ y → lower x q ≡ true → lower y q ≡ true
+    named x y q e h = ap (λ (z : ℕ). lower z q) (sym e) ∙ h
+
+    untrue : (b : Bool) → not b ≡ false → b ≡ true
+    untrue true h = refl
+    untrue false h = absurd (true≢false h)
+
+    ne-free : (se sw nw : Bool) → scan lower p (round (not (falls (p - columns))) se sw nw) ≡ scan lower p (round true se sw nw)
+    ne-free se sw nw =
+        let q = p - (columns - 1) in
+        free p q _ (place true (p - columns) ∷ []) _
+        (λ t.
+        falling columns (p - columns) wide q (untrue _ t) (List·Memᴰ·tail (List·Memᴰ·head (omega arith))) (λ e. omega arith) (λ e. omega arith)
+        (λ h. unseen p (p - columns) q [] _ h)
+        (λ h. unseen p (p + 1) q (place true (p - columns) ∷ []) _ (named _ (p + 1) q (omega arith) h)))
+
+    se-free : (ne sw nw : Bool) → scan lower p (round ne (falls p) sw nw) ≡ scan lower p (round ne true sw nw)
+    se-free ne sw nw =
+        let q = p + (columns + 1) in
+        let east = place true (p - columns) ∷ place ne (p - (columns - 1)) ∷ place true (p + 1) ∷ [] in
+        free p q _ east _
+        (λ t.
+        rising columns p wide q t (List·Memᴰ·tail (List·Memᴰ·tail (List·Memᴰ·tail (List·Memᴰ·head (omega arith))))) (λ e. omega arith) (λ e. omega arith)
+        (λ h. unseen p (p + 1) q (place true (p - columns) ∷ place ne (p - (columns - 1)) ∷ []) _ h)
+        (λ h. unseen p (p + columns) q east _ h))
+
+    sw-free : (ne se nw : Bool) → scan lower p (round ne se (not (falls (p - 1))) nw) ≡ scan lower p (round ne se true nw)
+    sw-free ne se nw =
+        let q = p + (columns - 1) in
+        let east = place true (p - columns) ∷ place ne (p - (columns - 1)) ∷ place true (p + 1) ∷ place se (p + (columns + 1)) ∷ [] in
+        let south = place true (p - columns) ∷ place ne (p - (columns - 1)) ∷ place true (p + 1) ∷ place se (p + (columns + 1)) ∷ place true (p + columns) ∷ [] in
+        free p q _ south _
+        (λ t.
+        falling columns (p - 1) wide q (untrue _ t) (List·Memᴰ·tail (List·Memᴰ·tail (List·Memᴰ·head (omega arith)))) (λ e. omega arith) (λ e. omega arith)
+        (λ h. unseen p (p - 1) q south _ h)
+        (λ h. unseen p (p + columns) q east _ (named _ (p + columns) q (omega arith) h)))
+
+    nw-free : (ne se sw : Bool) → scan lower p (round ne se sw (falls (p - columns - 1))) ≡ scan lower p (round ne se sw true)
+    nw-free ne se sw =
+        let q = p - (columns + 1) in
+        let south = place true (p - columns) ∷ place ne (p - (columns - 1)) ∷ place true (p + 1) ∷ place se (p + (columns + 1)) ∷ place true (p + columns) ∷ place sw (p + (columns - 1)) ∷ [] in
+        free p q _ (place true (p - columns) ∷ place ne (p - (columns - 1)) ∷ place true (p + 1) ∷ place se (p + (columns + 1)) ∷ place true (p + columns) ∷ place sw (p + (columns - 1)) ∷ place true (p - 1) ∷ []) _
+        (λ t.
+        rising columns (p - columns - 1) wide q t (List·Memᴰ·head (omega arith)) (λ e. omega arith) (λ e. omega arith)
+        (λ h. unseen p (p - columns) q [] _ (named _ (p - columns) q (omega arith) h))
+        (λ h. unseen p (p - 1) q south _ (named _ (p - 1) q (omega arith) h)))
+
+    -- p's corners by the diagonals round it
+    abbrev joinedCorners : Corners
+    joinedCorners = record { ne = not (falls (p - columns)); se = falls p; sw = not (falls (p - 1)); nw = falls (p - columns - 1) }
+
+    pub every-corner : scan lower p (turn columns p inside joinedCorners) ≡ scan lower p (turn columns p inside everyCorner)
+    every-corner = ne-free _ _ _ ∙ se-free _ _ _ ∙ sw-free _ _ _ ∙ nw-free _ _ _
+
+  -- upward, round any post
+  module _ (columns p : ℕ) (wide : 2 ≤ columns) where
+    -- a place's flag matters only where its post is above p
+    abbrev higher : ℕ → ℕ → Bool
+    higher = reversed lower
+
+    first-step : (q : ℕ) (t u : Bool) → (lower p q ≡ true → t ≡ u) → step higher p (place t q) ≡ step higher p (place u q)
+    first-step q t u h = either (lower p q) (λ e. rw (h e)) (λ e. rw e (level t ∙ sym (level u)))
+      where
+        level : (b : Bool) → cond b p p ≡ p
+        level true = refl
+        level false = refl
+
+    same-flag : (q : ℕ) (t u : Bool) (k m : List Place) → (lower p q ≡ true → t ≡ u) → scan higher p (k ++ place t q ∷ m) ≡ scan higher p (k ++ place u q ∷ m)
+    same-flag q t u k m h =
+        to-front higher (reversed-strict o) p k (place t q) m
+        ∙ ap (λ (w : ℕ). scan higher w (k ++ m)) (first-step q t u h)
+        ∙ sym (to-front higher (reversed-strict o) p k (place u q) m)
+
+    -- and there it is whether both sides of the cell are above p
+    ne-above : columns ≤ p → lower p (p - (columns - 1)) ≡ true → not (throughLowest lower columns (p - columns)) ≡ lower p (p - columns) && lower p (p + 1)
+    ne-above far h =
+        let e : p - columns + columns ≡ p = omega arith in
+        let q : p - columns + 1 ≡ p - (columns - 1) = omega arith in
+        rw e at (from-sw columns (p - columns) wide (rw (e, q) h))
+
+    se-above : lower p (p + (columns + 1)) ≡ true → throughLowest lower columns p ≡ lower p (p + 1) && lower p (p + columns)
+    se-above h =
+        let q : p + columns + 1 ≡ p + (columns + 1) = omega arith in
+        from-nw columns p wide (rw q h)
+
+    sw-above : 1 ≤ p → lower p (p + (columns - 1)) ≡ true → not (throughLowest lower columns (p - 1)) ≡ lower p (p + columns) && lower p (p - 1)
+    sw-above far h =
+        let e : p - 1 + 1 ≡ p = omega arith in
+        let q : p - 1 + columns ≡ p + (columns - 1) = omega arith in
+        let s : p + (columns - 1) + 1 ≡ p + columns = omega arith in
+        rw (e, q, s) at (from-ne columns (p - 1) wide (rw (e, q) h))
+
+    nw-above : columns + 1 ≤ p → lower p (p - (columns + 1)) ≡ true → throughLowest lower columns (p - columns - 1) ≡ lower p (p - 1) && lower p (p - columns)
+    nw-above far h =
+        let e : p - columns - 1 + columns + 1 ≡ p = omega arith in
+        let q : p - columns - 1 ≡ p - (columns + 1) = omega arith in
+        let n : p - columns - 1 + 1 ≡ p - columns = omega arith in
+        let w : p - columns - 1 + columns ≡ p - 1 = omega arith in
+        rw (e, n, w) at (from-se columns (p - columns - 1) wide (rw (e, q) h))
+
+    module _ (at : Borders) (north : at .top ≡ false → columns ≤ p) (west : at .left ≡ false → 1 ≤ p) (northWest : at .left ≡ false → at .top ≡ false → columns + 1 ≤ p) where
+      abbrev n : Place
+      n = place (not (at .top)) (p - columns)
+
+      abbrev e : Place
+      e = place (not (at .right)) (p + 1)
+
+      abbrev s : Place
+      s = place (not (at .bottom)) (p + columns)
+
+      abbrev w : Place
+      w = place (not (at .left)) (p - 1)
+
+      pub corners-above : (falls : ℕ → Bool) → falls ≡ throughLowest lower columns
+          → scan higher p (turn columns p at (record { ne = not (at .top) && (not (at .right) && not (falls (p - columns))); se = not (at .right) && (not (at .bottom) && falls p); sw = not (at .bottom) && (not (at .left) && not (falls (p - 1))); nw = not (at .left) && (not (at .top) && falls (p - columns - 1)) }))
+          ≡ scan higher p (turn columns p at (cornersAbove lower columns p at))
+      corners-above falls f =
+          rw f
+          (same-flag (p - (columns - 1)) _ _ (n ∷ []) _ (λ h. read-agree (at .top) (at .right) (λ i _. ne-above (north i) h))
+          ∙ same-flag (p + (columns + 1)) _ _ (n ∷ place _ (p - (columns - 1)) ∷ e ∷ []) _ (λ h. read-agree (at .right) (at .bottom) (λ _ _. se-above h))
+          ∙ same-flag (p + (columns - 1)) _ _ (n ∷ place _ (p - (columns - 1)) ∷ e ∷ place _ (p + (columns + 1)) ∷ s ∷ []) _
+          (λ h. read-agree (at .bottom) (at .left) (λ _ j. sw-above (west j) h))
+          ∙ same-flag (p - (columns + 1)) _ _ (n ∷ place _ (p - (columns - 1)) ∷ e ∷ place _ (p + (columns + 1)) ∷ s ∷ place _ (p + (columns - 1)) ∷ w ∷ []) _
+          (λ h. read-agree (at .left) (at .top) (λ i j. nw-above (northWest i j) h)))
+
+module _ {pl : Plot} {p : ℕ} (post : PostOf pl p) where
+  abbrev at : Borders
+  at = bordersOf pl.rows pl.columns p
+
+  -- the posts of the cells that are there
+  pub cell-posts : Neighbours pl.rows pl.columns p at (cells at)
+  cell-posts =
+      let s = post .valid .sides in
+      let n = neighbours s p (post .post) (fallsIn pl) in
+      record {
+        post = n .post;
+        north = n .north;
+        northEast = λ k. top-false s p .0 (both (at .top) (at .right) k .0);
+        east = n .east;
+        southEast = λ k. let b = both (at .right) (at .bottom) k in south-east s p (post .post) (b .0) (b .1);
+        south = n .south;
+        southWest = λ k. bottom-false s p (post .post) .0 (both (at .bottom) (at .left) k .0);
+        west = n .west;
+        northWest = λ k. let b = both (at .left) (at .top) k in north-west s p (post .post) (b .0) (b .1);
+      }
+
+  pub up-block : next (up pl) p ≡ scan (up pl .lower) p (turn pl.columns p at (cornersAbove (below pl) pl.columns p at))
+  up-block =
+      let s = post .valid .sides in
+      up-is post
+      ∙ corners-above (below pl) (below-strict pl) pl.columns p (s .wide) at (λ t. top-false s p .0 t) (λ l. not-left s p l) (λ l t. north-west s p (post .post) l t)
+      (fallsIn pl) refl
+
+  -- on no border
+  module _ (border : isBorder pl.rows pl.columns p ≡ false) where
+    off-top : top pl.columns p ≡ false
+    off-top = or-left _ _ border
+
+    off-right : right pl.columns p ≡ false
+    off-right = or-left _ _ (or-right (top pl.columns p) _ border)
+
+    off-bottom : bottom pl.rows pl.columns p ≡ false
+    off-bottom = or-left _ _ (or-right (right pl.columns p) _ (or-right (top pl.columns p) _ border))
+
+    off-left : left pl.columns p ≡ false
+    off-left = or-right (bottom pl.rows pl.columns p) _ (or-right (right pl.columns p) _ (or-right (top pl.columns p) _ border))
+
+    pub inside-at : at ≡ inside
+    inside-at = rw (off-top, off-right, off-bottom, off-left)
+
+    pub down-block : next (down pl) p ≡ scan (down pl .lower) p (turn pl.columns p inside everyCorner)
+    down-block =
+        down-is post border
+        ∙ rw (off-top, off-right, off-bottom, off-left)
+        (every-corner (below pl) (below-strict pl) pl.columns p (post .valid .sides .wide) (north-west (post .valid .sides) p (post .post) off-left off-top))
+
+    pub inside-posts : Neighbours pl.rows pl.columns p inside (cells inside)
+    inside-posts = subst (λ (a : Borders). Neighbours pl.rows pl.columns p a (cells a)) inside-at cell-posts

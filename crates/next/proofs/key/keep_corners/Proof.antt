@@ -1,0 +1,57 @@
+-- Four comparisons, and four choices by them.
+use mathlib.Core.Bool.{_&&_}
+use Rattle.next.proofs.Keyed.{small-cond}
+use borrow.Author.Needs.{needs}
+use Rattle.next.proofs.key.keep_corners.Statement.{statement}
+use Rattle.next.proofs.key.keep_corners.Tie as tie
+
+is-less-requires : tie.Need-is-less-requires
+is-less-requires c κs = search needs
+
+is-less-requires-2 : tie.Need-is-less-requires-2
+is-less-requires-2 c κs = search needs
+
+is-less-requires-3 : tie.Need-is-less-requires-3
+is-less-requires-3 c κs = search needs
+
+is-less-requires-4 : tie.Need-is-less-requires-4
+is-less-requires-4 c κs = search needs
+
+choose-requires : tie.Need-choose-requires
+choose-requires c κs = search needs
+
+choose-requires-2 : tie.Need-choose-requires-2
+choose-requires-2 c κs = search needs
+
+choose-requires-3 : tie.Need-choose-requires-3
+choose-requires-3 c κs = search needs
+
+choose-requires-4 : tie.Need-choose-requires-4
+choose-requires-4 c κs = search needs
+
+returns : tie.Need-returns
+returns c =
+    let sw = c .before in
+    let se = sw .before in
+    let ne = se .before in
+    let w = ne .before in
+    let s = w .before in
+    let e = s .before in
+    let n = e .before in
+    let small = n .before .pre in (
+      rw (c .choose4 .ensures, sw .choose3 .ensures, se .choose2 .ensures, ne .choose .ensures, w .is-less4 .ensures, s .is-less3 .ensures, e .is-less2 .ensures, n .is-less .ensures),
+      record {
+        post = small .post;
+        n = small .n;
+        ne = rw (ne .choose .ensures) (small-cond (n .is-less .result && e .is-less2 .result) _ _ (small .ne) (small .post));
+        e = small .e;
+        se = rw (se .choose2 .ensures) (small-cond (e .is-less2 .result && s .is-less3 .result) _ _ (small .se) (small .post));
+        s = small .s;
+        sw = rw (sw .choose3 .ensures) (small-cond (s .is-less3 .result && w .is-less4 .result) _ _ (small .sw) (small .post));
+        w = small .w;
+        nw = rw (c .choose4 .ensures) (small-cond (w .is-less4 .result && n .is-less .result) _ _ (small .nw) (small .post));
+      },
+    )
+
+pub keep-corners-spec : {M : Type 1} → statement M
+keep-corners-spec = tie.close (tie.spec is-less-requires is-less-requires-2 is-less-requires-3 is-less-requires-4 choose-requires choose-requires-2 choose-requires-3 choose-requires-4 returns)

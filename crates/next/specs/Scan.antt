@@ -1,0 +1,61 @@
+-- The lowest of a post and its neighbours, found by a scan of the places round it, in an order: the height order, or it reversed for the highest.
+use Prim.Native.Nat.{ℕ, _+_, _-_}
+use mathlib.Core.Bool.{Bool, true, false, cond, not, _&&_}
+use mathlib.Core.List.{List, [], _∷_}
+use Rattle.surface.specs.Edges.{lowerOf, Place, place}
+use Rattle.post.specs.declared.border.Borders.{Borders}
+use Rattle.post.specs.declared.sign.Corners.{Corners}
+
+-- a post on no border
+abbrev pub inside : Borders
+inside = record { top = false; bottom = false; left = false; right = false }
+
+-- the corners whose cell is there
+abbrev pub cells : Borders → Corners
+cells at =
+    record {
+      ne = not (at .top) && not (at .right);
+      se = not (at .right) && not (at .bottom);
+      sw = not (at .bottom) && not (at .left);
+      nw = not (at .left) && not (at .top);
+    }
+
+module _ (lower : ℕ → ℕ → Bool) where
+  -- the lower of what was found so far and the neighbour at a place
+  abbrev pub step : ℕ → Place → ℕ
+  step x y = cond (y .taken) (lowerOf lower x (y .member)) x
+
+  unfoldable pub scan : ℕ → List Place → ℕ
+  scan x [] = x
+  scan x (y ∷ l) = scan (step x y) l
+
+-- the posts round p, clockwise from north
+abbrev pub turn : ℕ → ℕ → Borders → Corners → List Place
+turn columns p at joined =
+    place (not (at .top)) (p - columns)
+    ∷ place (joined .ne) (p - (columns - 1))
+    ∷ place (not (at .right)) (p + 1)
+    ∷ place (joined .se) (p + (columns + 1))
+    ∷ place (not (at .bottom)) (p + columns)
+    ∷ place (joined .sw) (p + (columns - 1))
+    ∷ place (not (at .left)) (p - 1)
+    ∷ place (joined .nw) (p - (columns + 1))
+    ∷ []
+
+-- joined to every corner
+abbrev pub everyCorner : Corners
+everyCorner = record { ne = true; se = true; sw = true; nw = true }
+
+-- joined to a corner where their cell is there and both its sides are above p
+abbrev pub cornersAbove : (ℕ → ℕ → Bool) → ℕ → ℕ → Borders → Corners
+cornersAbove lower columns p at =
+    let n = lower p (p - columns) in
+    let e = lower p (p + 1) in
+    let s = lower p (p + columns) in
+    let w = lower p (p - 1) in
+    record {
+      ne = not (at .top) && (not (at .right) && (n && e));
+      se = not (at .right) && (not (at .bottom) && (e && s));
+      sw = not (at .bottom) && (not (at .left) && (s && w));
+      nw = not (at .left) && (not (at .top) && (w && n));
+    }

@@ -1,0 +1,56 @@
+// Next down and next up from a post: the lowest, or highest, key round it.
+//
+// The diagonals need not be known. Downward every corner may be looked at: one that is not joined has a lower post beside it, which is. Upward a
+// corner that is above the post is joined to it exactly where both sides of their cell are above the post too, since the diagonal goes through the
+// lowest of the four.
+use crate::key;
+use post::border::borders_of;
+use post::border::is_border;
+use surface::DOWN;
+use surface::Grid;
+use surface::UP;
+use surface::VIRTUAL_PIT;
+ghost use mathlib.Core.Path.{_≡_};
+ghost use mathlib.Core.Bool.{true, false};
+ghost use Rattle.surface.specs.Plot.{plotOf, PostOf};
+ghost use Rattle.surface.specs.Edges.{isBorder};
+ghost use Rattle.surface.specs.Lines.{next, toward, up};
+
+// Next down, or where `up` next up, from a post on no border.
+pub fn next_inside(heights: &[i32], grid: Grid, p: usize, up: bool) -> usize
+    requires { ⌜ PostOf (plotOf grid (now heights)) p × (isBorder (grid .rows) (grid .columns) p ≡ false) ⌝ }
+    ensures { λ r. ⌜ r ≡ next (toward up (plotOf grid (now (heights .entry)))) p ⌝ }
+{
+    let block = key::block_inside(heights, grid, p);
+    if up {
+        let highest = key::farthest_in(UP, key::keep_corners(block));
+        return key::post_of(grid, p, highest);
+    }
+    let lowest = key::farthest_in(DOWN, block);
+    key::post_of(grid, p, lowest)
+}
+
+// Next up from any post; used for those on a border.
+fn next_up_anywhere(heights: &[i32], grid: Grid, p: usize) -> usize
+    requires { ⌜ PostOf (plotOf grid (now heights)) p ⌝ }
+    ensures { λ r. ⌜ r ≡ next (up (plotOf grid (now (heights .entry)))) p ⌝ }
+{
+    let at = borders_of(grid, p);
+    let block = key::block_at(heights, grid, p, at);
+    let highest = key::farthest_in(UP, key::keep_corners(block));
+    key::post_of(grid, p, highest)
+}
+
+// Next down, or where `up` next up, from any post. From a post on a border next down is the virtual pit.
+pub fn next_at(heights: &[i32], grid: Grid, p: usize, up: bool) -> usize
+    requires { ⌜ PostOf (plotOf grid (now heights)) p ⌝ }
+    ensures { λ r. ⌜ r ≡ next (toward up (plotOf grid (now (heights .entry)))) p ⌝ }
+{
+    if !is_border(grid, p) {
+        return next_inside(heights, grid, p, up);
+    }
+    if up {
+        return next_up_anywhere(heights, grid, p);
+    }
+    VIRTUAL_PIT
+}

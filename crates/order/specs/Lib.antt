@@ -1,0 +1,2 @@
+-- How level posts round a post are told apart by one number.
+pub mod Ties
