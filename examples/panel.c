@@ -8,17 +8,18 @@
 
 #include <stdio.h>
 
-static uint8_t file[SN_MAX_FILE + 1];
+static uint8_t file[SN_MAX_FILE + 1]; /* a byte more, to see a file that is too long */
 static uint32_t rows, columns;
 static size_t posts;
 static int32_t heights[SN_MAX_POSTS];
 static uint8_t marks[SN_MAX_POSTS];
 static uint16_t line[SN_MAX_LINE], dales[SN_MAX_POSTS], hills[SN_MAX_POSTS];
 
-/* Shows why a call was turned away. */
+/* Shows why a call was turned away: code, place, and the code in words. */
 static int refused(const char *call, uint32_t code, uint32_t place)
 {
-    printf("%s refused: %lu at %lu\n", call, (unsigned long)code, (unsigned long)place);
+    fprintf(stderr, "%s refused: %lu at %lu, %s\n", call, (unsigned long)code,
+            (unsigned long)place, sn_code_text(code));
     return 1;
 }
 
@@ -122,7 +123,7 @@ int main(int argc, char **argv)
     uint32_t middle, saddle;
 
     if (f == NULL) {
-        printf("usage: panel plot.svy\n");
+        fprintf(stderr, "usage: panel plot.svy\n");
         return 2;
     }
     length = fread(file, 1, sizeof file, f);
@@ -136,7 +137,7 @@ int main(int argc, char **argv)
     /* From the last post that is on no border. */
     if (walk_down((uint32_t)posts - columns - 2))
         return 1;
-    for (saddle = 0; saddle < posts && marks[saddle] < SN_SADDLE_1; saddle++)
+    for (saddle = 0; saddle < posts && !SN_IS_SADDLE(marks[saddle]); saddle++)
         ;
     return saddle < posts ? show_saddle(saddle) : 0;
 }
