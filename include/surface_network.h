@@ -78,11 +78,14 @@ extern "C" {
 #define SN_USE_ANSWER
 #define SN_INLINE static inline
 #endif
-#if defined(__GNUC__) && !defined(__clang__) && __GNUC__ >= 10
+#ifdef __has_attribute
+#if __has_attribute(access)
 #define SN_READS(list, length) __attribute__((access(read_only, list, length)))
 #define SN_WRITES(list, length) __attribute__((access(write_only, list, length)))
 #define SN_CHANGES(list, length) __attribute__((access(read_write, list, length)))
-#else
+#endif
+#endif
+#ifndef SN_READS
 #define SN_READS(list, length)
 #define SN_WRITES(list, length)
 #define SN_CHANGES(list, length)
@@ -123,13 +126,12 @@ enum {
 };
 
 /*
- * What a mark says of a saddle; 0 where it is no saddle's. For marks that a survey
- * wrote. Each takes its argument twice.
+ * What a survey's mark says. Each evaluates its argument twice.
  *
- * SN_SADDLE_RUNS     how many lower runs the saddle has, and as many upper ones: 2,
- *                    3 or 4. It has a thalweg and a ridge for each run from 0 to
- *                    SN_SADDLE_RUNS - 1.
- * SN_MULTIPLICITY    that of the saddle, 1, 2 or 3: what it adds to sn_counts.saddles.
+ * SN_SADDLE_RUNS   how many lower runs a saddle has, and as many upper ones: 2, 3 or
+ *                  4. It has a thalweg and a ridge for each run from 0 to one less.
+ *                  0 for a mark that is no saddle's: such a post has no lines.
+ * SN_MULTIPLICITY  what a saddle adds to sn_counts.saddles: 1, 2 or 3; 0 likewise.
  */
 #define SN_IS_SADDLE(mark) ((mark) >= SN_SADDLE_1)
 #define SN_SADDLE_RUNS(mark) (SN_IS_SADDLE(mark) ? (mark) - 1u : 0u)
@@ -158,9 +160,9 @@ SN_INLINE const char *sn_code_text(uint32_t code)
 {
     switch (code) {
     case SN_OK: return "accepted";
-    case SN_BAD_SIDES: return "rows or columns are not 2 to 120";
-    case SN_BAD_HEIGHTS_LENGTH: return "the heights lent are not rows times columns";
-    case SN_BAD_LIST_LENGTH: return "a list lent is not exactly its size";
+    case SN_BAD_SIDES: return "rows or columns are outside 2 to 120";
+    case SN_BAD_HEIGHTS_LENGTH: return "the heights are not rows times columns";
+    case SN_BAD_LIST_LENGTH: return "a list is not exactly as long as it must be";
     case SN_HEIGHT_OUT_OF_RANGE: return "a height is out of range";
     case SN_NO_SUCH_POST: return "the plot has no such post";
     case SN_BAD_NEW_HEIGHT: return "the new height is out of range";
@@ -169,7 +171,7 @@ SN_INLINE const char *sn_code_text(uint32_t code)
     case SN_LINE_TOO_LONG: return "the line has more entries than its list";
     case SN_FILE_TOO_SHORT: return "the file has under 7 bytes";
     case SN_BAD_VERSION: return "the file's version is not 1";
-    case SN_BAD_COUNT: return "the file's count is not that of its bytes and sides";
+    case SN_BAD_COUNT: return "the file's count does not fit its length and sides";
     default: return "no such code";
     }
 }

@@ -33,7 +33,7 @@ counted() {
     status=${PIPESTATUS[0]}
     last=$(tail -n 1 "$log")
     rm -f "$log"
-    if [[ $last =~ ^([0-9]+)\ passed,\ ([0-9]+)\ failed$ ]] && [ "$last" != '0 passed, 0 failed' ]; then
+    if [[ $last =~ ^([0-9]+)\ passed,\ ([0-9]+)\ failed$ && $last != '0 passed, 0 failed' ]]; then
         passed=$((passed + BASH_REMATCH[1]))
         failed=$((failed + BASH_REMATCH[2]))
         [ "$status" = 0 ] || [ "${BASH_REMATCH[2]}" != 0 ] || failed=$((failed + 1))

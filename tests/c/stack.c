@@ -104,23 +104,25 @@ static void fill(uint32_t kinds)
 int main(void)
 {
     static const uint32_t kinds[3] = {2, 7, 1000000};
-    size_t most[9] = {0}, bytes;
+    size_t bytes, most = 0;
     int i, k, passed = 0, failed = 0;
 
     for (k = 0; k < 3; k++) {
         fill(kinds[k]);
         for (i = 0; i < 9; i++) {
-            code = 99;
+            code = SN_BAD_COUNT;
             bytes = taken(calls[i].call);
-            most[i] = bytes > most[i] ? bytes : most[i];
-            if (code == SN_OK && bytes < BOUND)
+            most = bytes > most ? bytes : most;
+            if (code == SN_OK && bytes < BOUND) {
                 passed++;
-            else
+            } else {
                 failed++;
+                printf("FAILED: %s, %lu bytes, %s\n", calls[i].name, (unsigned long)bytes,
+                       sn_code_text(code));
+            }
         }
     }
-    for (i = 0; i < 9; i++)
-        printf("%s: %lu bytes of stack\n", calls[i].name, (unsigned long)most[i]);
+    printf("at most %lu bytes of stack\n", (unsigned long)most);
     printf("%d passed, %d failed\n", passed, failed);
     return failed != 0;
 }
