@@ -28,17 +28,17 @@ static int refused(const char *call, uint32_t code)
     return 1;
 }
 
+/* A read that fails is no short file. */
 static int read_plot(const char *name)
 {
     FILE *f = fopen(name, "rb");
-    size_t length;
+    size_t length = f == NULL ? 0 : fread(file, 1, sizeof file, f);
     sn_size size;
 
-    if (f == NULL) {
+    if (f == NULL || ferror(f)) {
         perror(name);
         return 1;
     }
-    length = fread(file, 1, sizeof file, f);
     fclose(f);
     posts = length < SN_FILE_HEADER ? 0 : (size_t)file[5] * file[6];
     if (posts > SN_MAX_POSTS)

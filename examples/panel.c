@@ -31,11 +31,19 @@ static void print_vertex(uint32_t v)
         printf(" %lu", (unsigned long)v);
 }
 
-/* Reads a file of this length. Bytes 5 and 6 tell how many heights there are. */
-static int read_plot(size_t length)
+/* Reads a plot. Bytes 5 and 6 of a file tell how many heights there are. A read that
+   fails is no short file. */
+static int read_plot(const char *name)
 {
+    FILE *f = fopen(name, "rb");
+    size_t length = f == NULL ? 0 : fread(file, 1, sizeof file, f);
     sn_size size;
 
+    if (f == NULL || ferror(f)) {
+        perror(name);
+        return 1;
+    }
+    fclose(f);
     posts = length < SN_FILE_HEADER ? 0 : (size_t)file[5] * file[6];
     if (posts > SN_MAX_POSTS)
         posts = 0;
@@ -118,18 +126,13 @@ static int show_saddle(uint32_t saddle)
 
 int main(int argc, char **argv)
 {
-    FILE *f = argc == 2 ? fopen(argv[1], "rb") : NULL;
-    size_t length;
     uint32_t middle, saddle;
 
-    if (f == NULL) {
+    if (argc != 2) {
         fprintf(stderr, "usage: panel plot.svy\n");
         return 2;
     }
-    length = fread(file, 1, sizeof file, f);
-    fclose(f);
-
-    if (read_plot(length) || survey())
+    if (read_plot(argv[1]) || survey())
         return 1;
     middle = (uint32_t)posts / 2;
     if (reshoot(middle, heights[middle] - 5))
