@@ -1,7 +1,10 @@
 /*
  * The library against its C twin, in one run, the three builds taking turns on
  * the same lists. Times are medians, in nanoseconds a post. The lists are warm
- * and are not cleared between calls.
+ * and are not cleared between calls. The status is 0 where all builds agree on
+ * every answer and list, however long they took.
+ *
+ *     bench [rounds]
  */
 #define _POSIX_C_SOURCE 199309L
 #include "twin.h"
@@ -225,7 +228,8 @@ static void prepare(uint32_t a_side, int kind, int name)
 
 /* ---- times ---- */
 
-enum { ROUNDS = 25 };
+enum { MOST_ROUNDS = 1000 };
+static int rounds = 25;
 
 static double now(void)
 {
@@ -242,8 +246,8 @@ static int compare(const void *a, const void *b)
 
 static double median(double *values)
 {
-    qsort(values, ROUNDS, sizeof *values, compare);
-    return values[ROUNDS / 2];
+    qsort(values, (size_t)rounds, sizeof *values, compare);
+    return values[rounds / 2];
 }
 
 typedef struct {
@@ -255,11 +259,11 @@ typedef struct {
    grows slower for a while does not bend it. */
 static figures measure(int name)
 {
-    double times[BUILDS][ROUNDS], ratios[BUILDS][ROUNDS];
+    double times[BUILDS][MOST_ROUNDS], ratios[BUILDS][MOST_ROUNDS];
     uint32_t repeats = 1 + 400000 / (posts * 5);
     figures f;
 
-    for (int round = 0; round < ROUNDS; round++) {
+    for (int round = 0; round < rounds; round++) {
         for (int build = 0; build < BUILDS; build++) {
             double start = now();
             for (uint32_t turn = 0; turn < repeats; turn++)
@@ -276,6 +280,12 @@ static figures measure(int name)
     return f;
 }
 
+static void heading(const char *left, const char *right)
+{
+    printf("%-16s %-13s %9s %9s %9s %11s %11s %12s\n", left, right, "library", "scalar", "vector",
+           "lib/scalar", "lib/vector", "lib us/call");
+}
+
 static int row(const char *left, const char *right, uint32_t a_side, int kind, int name)
 {
     figures f;
@@ -286,26 +296,31 @@ static int row(const char *left, const char *right, uint32_t a_side, int kind, i
             outcome(LIBRARY, name) == outcome(VECTOR, name);
     prepare(a_side, kind, name);
     f = measure(name);
-    printf("%-16s %-13s %9.2f %9.2f %9.2f %11.2f %11.2f%s\n", left, right, f.time[LIBRARY],
-           f.time[SCALAR], f.time[VECTOR], f.ratio[SCALAR], f.ratio[VECTOR],
-           agree ? "" : "  THEY DISAGREE");
+    printf("%-16s %-13s %9.2f %9.2f %9.2f %11.2f %11.2f %12.2f%s\n", left, right,
+           f.time[LIBRARY], f.time[SCALAR], f.time[VECTOR], f.ratio[SCALAR], f.ratio[VECTOR],
+           f.time[LIBRARY] * posts / 1000, agree ? "" : "  THEY DISAGREE");
     return agree;
 }
 
-int main(void)
+static int by_plot(void)
 {
-    static const uint32_t sides[4] = {15, 30, 60, 120};
-    const char *heading = "%-16s %-13s %9s %9s %9s %11s %11s\n";
     int agree = 1;
 
-    printf("Nanoseconds a post at 120 by 120, median of %d rounds, lists warm.\n\n", ROUNDS);
-    printf(heading, "call", "plot", "library", "scalar", "vector", "lib/scalar", "lib/vector");
+    printf("Nanoseconds a post at 120 by 120, median of %d rounds, lists warm.\n\n", rounds);
+    heading("call", "plot");
     for (int name = 0; name < NAMES; name++)
         for (int kind = 0; kind < KINDS; kind++)
             agree &= row(call_names[name], kind_names[kind], 120, kind, name);
+    return agree;
+}
+
+static int by_size(void)
+{
+    static const uint32_t sides[4] = {15, 30, 60, 120};
+    int agree = 1;
 
     printf("\nNanoseconds a post by size.\n\n");
-    printf(heading, "call", "side", "library", "scalar", "vector", "lib/scalar", "lib/vector");
+    heading("call", "side");
     for (int name = SURVEY; name <= DALES_AND_HILLS; name++)
         for (int kind = RANDOM; kind <= SPIRAL; kind += SPIRAL)
             for (int i = 0; i < 4; i++) {
@@ -314,6 +329,21 @@ int main(void)
                          kind_names[kind]);
                 agree &= row(call_names[name], label, sides[i], kind, name);
             }
+    return agree;
+}
+
+int main(int argc, char **argv)
+{
+    int agree;
+
+    if (argc > 1)
+        rounds = atoi(argv[1]);
+    if (argc > 2 || rounds < 1 || rounds > MOST_ROUNDS) {
+        fprintf(stderr, "usage: bench [rounds, 1 to %d]\n", MOST_ROUNDS);
+        return 2;
+    }
+    agree = by_plot();
+    agree &= by_size();
     printf(agree ? "\nAll builds agree.\n" : "\nTHE BUILDS DISAGREE.\n");
     return !agree;
 }

@@ -8,17 +8,18 @@
 
 #include <stdio.h>
 
-static uint8_t file[SN_MAX_FILE + 1];
+static uint8_t file[SN_MAX_FILE + 1]; /* a byte more, to see a file that is too long */
 static uint32_t rows, columns;
 static size_t posts;
 static int32_t heights[SN_MAX_POSTS];
 static uint8_t marks[SN_MAX_POSTS];
 static uint16_t line[SN_MAX_LINE], dales[SN_MAX_POSTS], hills[SN_MAX_POSTS];
 
-/* Shows why a call was turned away. */
+/* Shows why a call was turned away: code, place, and the code in words. */
 static int refused(const char *call, uint32_t code, uint32_t place)
 {
-    printf("%s refused: %lu at %lu\n", call, (unsigned long)code, (unsigned long)place);
+    fprintf(stderr, "%s refused: %lu at %lu, %s\n", call, (unsigned long)code,
+            (unsigned long)place, sn_code_text(code));
     return 1;
 }
 
@@ -30,11 +31,19 @@ static void print_vertex(uint32_t v)
         printf(" %lu", (unsigned long)v);
 }
 
-/* Reads a file of this length. Bytes 5 and 6 tell how many heights there are. */
-static int read_plot(size_t length)
+/* Reads a plot. Bytes 5 and 6 of a file tell how many heights there are. A read that
+   fails is no short file. */
+static int read_plot(const char *name)
 {
+    FILE *f = fopen(name, "rb");
+    size_t length = f == NULL ? 0 : fread(file, 1, sizeof file, f);
     sn_size size;
 
+    if (f == NULL || ferror(f)) {
+        perror(name);
+        return 1;
+    }
+    fclose(f);
     posts = length < SN_FILE_HEADER ? 0 : (size_t)file[5] * file[6];
     if (posts > SN_MAX_POSTS)
         posts = 0;
@@ -117,18 +126,13 @@ static int show_saddle(uint32_t saddle)
 
 int main(int argc, char **argv)
 {
-    FILE *f = argc == 2 ? fopen(argv[1], "rb") : NULL;
-    size_t length;
     uint32_t middle, saddle;
 
-    if (f == NULL) {
-        printf("usage: panel plot.svy\n");
+    if (argc != 2) {
+        fprintf(stderr, "usage: panel plot.svy\n");
         return 2;
     }
-    length = fread(file, 1, sizeof file, f);
-    fclose(f);
-
-    if (read_plot(length) || survey())
+    if (read_plot(argv[1]) || survey())
         return 1;
     middle = (uint32_t)posts / 2;
     if (reshoot(middle, heights[middle] - 5))
@@ -136,7 +140,7 @@ int main(int argc, char **argv)
     /* From the last post that is on no border. */
     if (walk_down((uint32_t)posts - columns - 2))
         return 1;
-    for (saddle = 0; saddle < posts && marks[saddle] < SN_SADDLE_1; saddle++)
+    for (saddle = 0; saddle < posts && !SN_IS_SADDLE(marks[saddle]); saddle++)
         ;
     return saddle < posts ? show_saddle(saddle) : 0;
 }

@@ -33,6 +33,10 @@
  *   during the call. A pointer may be null only where its length is 0; one that
  *   is not null is aligned for its type.
  * - Lists lent to one call share no memory. This is for the caller to keep.
+ * - Threads: there is no state, so any number of calls may run at the same time,
+ *   as long as no list that one of them writes is lent to another. Lists that are
+ *   only read may be lent to several at once. Whoever re-shoots a plot keeps other
+ *   threads from its lists meanwhile.
  * - An accepted call answers code SN_OK, place 0, then its values. A refused one
  *   answers a code from 1 to 12 and its place; every other value is 0, and no
  *   list is changed. Where several refusals hold, the one listed first under the
@@ -48,10 +52,43 @@
 extern "C" {
 #endif
 
+/* Version of the library. The build takes it from these three lines. */
+#define SN_VERSION_MAJOR 1
+#define SN_VERSION_MINOR 1
+#define SN_VERSION_PATCH 0
+#define SN_VERSION \
+    SN_TEXT(SN_VERSION_MAJOR) "." SN_TEXT(SN_VERSION_MINOR) "." SN_TEXT(SN_VERSION_PATCH)
+
+/* Helpers of this header. */
+#define SN_TEXT(number) SN_TEXT_OF(number)
+#define SN_TEXT_OF(number) #number
+
+#ifdef __cplusplus
+#define SN_TO_SIZE(number) static_cast<size_t>(number)
+#else
+#define SN_TO_SIZE(number) ((size_t)(number))
+#endif
+
+/* SN_USE_ANSWER warns of an answer that is not looked at; SN_READS, SN_WRITES and
+   SN_CHANGES, by the places of two arguments, of a length beyond its list. */
 #if defined(__GNUC__) || defined(__clang__)
 #define SN_USE_ANSWER __attribute__((warn_unused_result))
+#define SN_INLINE static __inline__
 #else
 #define SN_USE_ANSWER
+#define SN_INLINE static inline
+#endif
+#ifdef __has_attribute
+#if __has_attribute(access)
+#define SN_READS(list, length) __attribute__((access(read_only, list, length)))
+#define SN_WRITES(list, length) __attribute__((access(write_only, list, length)))
+#define SN_CHANGES(list, length) __attribute__((access(read_write, list, length)))
+#endif
+#endif
+#ifndef SN_READS
+#define SN_READS(list, length)
+#define SN_WRITES(list, length)
+#define SN_CHANGES(list, length)
 #endif
 
 /* Sizes of a plot. */
@@ -75,7 +112,7 @@ extern "C" {
 #define SN_FILE_VERSION 1
 #define SN_FILE_HEADER 7
 #define SN_FILE_SIZE(rows, columns) \
-    ((size_t)SN_FILE_HEADER + 4 * (size_t)(rows) * (size_t)(columns))
+    (SN_FILE_HEADER + 4 * SN_TO_SIZE(rows) * SN_TO_SIZE(columns))
 #define SN_MAX_FILE 57607 /* SN_FILE_SIZE(SN_MAX_SIDE, SN_MAX_SIDE) */
 
 /* Marks, one byte a post. */
@@ -87,6 +124,18 @@ enum {
     SN_SADDLE_2 = 4, /* three lower runs: multiplicity 2 */
     SN_SADDLE_3 = 5  /* four lower runs: multiplicity 3 */
 };
+
+/*
+ * What a survey's mark says. Each evaluates its argument twice.
+ *
+ * SN_SADDLE_RUNS   how many lower runs a saddle has, and as many upper ones: 2, 3 or
+ *                  4. It has a thalweg and a ridge for each run from 0 to one less.
+ *                  0 for a mark that is no saddle's: such a post has no lines.
+ * SN_MULTIPLICITY  what a saddle adds to sn_counts.saddles: 1, 2 or 3; 0 likewise.
+ */
+#define SN_IS_SADDLE(mark) ((mark) >= SN_SADDLE_1)
+#define SN_SADDLE_RUNS(mark) (SN_IS_SADDLE(mark) ? (mark) - 1u : 0u)
+#define SN_MULTIPLICITY(mark) (SN_IS_SADDLE(mark) ? (mark) - 2u : 0u)
 
 /* Codes. */
 enum {
@@ -105,6 +154,27 @@ enum {
     SN_BAD_COUNT = 12           /* stated count is not that of the bytes after
                                    it, or not 2 + 4 * rows * columns */
 };
+
+/* A code in words, for a message. Never null; the text lives as long as the program. */
+SN_INLINE const char *sn_code_text(uint32_t code)
+{
+    switch (code) {
+    case SN_OK: return "accepted";
+    case SN_BAD_SIDES: return "rows or columns are outside 2 to 120";
+    case SN_BAD_HEIGHTS_LENGTH: return "the heights are not rows times columns";
+    case SN_BAD_LIST_LENGTH: return "a list is not exactly as long as it must be";
+    case SN_HEIGHT_OUT_OF_RANGE: return "a height is out of range";
+    case SN_NO_SUCH_POST: return "the plot has no such post";
+    case SN_BAD_NEW_HEIGHT: return "the new height is out of range";
+    case SN_NOT_A_SADDLE: return "the post is no saddle";
+    case SN_NO_SUCH_RUN: return "the saddle has no such run";
+    case SN_LINE_TOO_LONG: return "the line has more entries than its list";
+    case SN_FILE_TOO_SHORT: return "the file has under 7 bytes";
+    case SN_BAD_VERSION: return "the file's version is not 1";
+    case SN_BAD_COUNT: return "the file's count does not fit its length and sides";
+    default: return "no such code";
+    }
+}
 
 /* Answers. All begin with code and place. */
 typedef struct sn_answer {
@@ -145,7 +215,7 @@ typedef struct sn_size {
  *   SN_BAD_LIST_LENGTH      marks are not rows * columns
  *   SN_HEIGHT_OUT_OF_RANGE  place: the first such post
  */
-SN_USE_ANSWER
+SN_USE_ANSWER SN_READS(3, 4) SN_WRITES(5, 6)
 sn_counts sn_survey(uint32_t rows, uint32_t columns,
                     const int32_t *heights, size_t heights_length,
                     uint8_t *marks, size_t marks_length);
@@ -167,7 +237,7 @@ sn_counts sn_survey(uint32_t rows, uint32_t columns,
  *   SN_NO_SUCH_POST
  *   SN_BAD_NEW_HEIGHT
  */
-SN_USE_ANSWER
+SN_USE_ANSWER SN_CHANGES(3, 4) SN_CHANGES(5, 6)
 sn_answer sn_reshoot(uint32_t rows, uint32_t columns,
                      int32_t *heights, size_t heights_length,
                      uint8_t *marks, size_t marks_length,
@@ -186,12 +256,12 @@ sn_answer sn_reshoot(uint32_t rows, uint32_t columns,
  *   SN_HEIGHT_OUT_OF_RANGE  place: the first such post
  *   SN_NO_SUCH_POST
  */
-SN_USE_ANSWER
+SN_USE_ANSWER SN_READS(3, 4)
 sn_next sn_next_down(uint32_t rows, uint32_t columns,
                      const int32_t *heights, size_t heights_length,
                      uint32_t post);
 
-SN_USE_ANSWER
+SN_USE_ANSWER SN_READS(3, 4)
 sn_next sn_next_up(uint32_t rows, uint32_t columns,
                    const int32_t *heights, size_t heights_length,
                    uint32_t post);
@@ -214,13 +284,13 @@ sn_next sn_next_up(uint32_t rows, uint32_t columns,
  *   SN_NO_SUCH_RUN
  *   SN_LINE_TOO_LONG        SN_VIRTUAL_PIT counts as an entry
  */
-SN_USE_ANSWER
+SN_USE_ANSWER SN_READS(3, 4) SN_WRITES(7, 8)
 sn_entries sn_thalweg(uint32_t rows, uint32_t columns,
                       const int32_t *heights, size_t heights_length,
                       uint32_t post, uint32_t run,
                       uint16_t *line, size_t line_length);
 
-SN_USE_ANSWER
+SN_USE_ANSWER SN_READS(3, 4) SN_WRITES(7, 8)
 sn_entries sn_ridge(uint32_t rows, uint32_t columns,
                     const int32_t *heights, size_t heights_length,
                     uint32_t post, uint32_t run,
@@ -238,7 +308,7 @@ sn_entries sn_ridge(uint32_t rows, uint32_t columns,
  *   SN_BAD_LIST_LENGTH      dales or hills are not rows * columns
  *   SN_HEIGHT_OUT_OF_RANGE  place: the first such post
  */
-SN_USE_ANSWER
+SN_USE_ANSWER SN_READS(3, 4) SN_WRITES(5, 6) SN_WRITES(7, 8)
 sn_answer sn_dales_and_hills(uint32_t rows, uint32_t columns,
                              const int32_t *heights, size_t heights_length,
                              uint16_t *dales, size_t dales_length,
@@ -268,7 +338,7 @@ sn_answer sn_dales_and_hills(uint32_t rows, uint32_t columns,
  *   SN_BAD_LIST_LENGTH      heights are not rows * columns
  *   SN_HEIGHT_OUT_OF_RANGE  place: the first such post
  */
-SN_USE_ANSWER
+SN_USE_ANSWER SN_READS(1, 2) SN_WRITES(3, 4)
 sn_size sn_read_survey(const uint8_t *file, size_t file_length,
                        int32_t *heights, size_t heights_length);
 
@@ -283,7 +353,7 @@ sn_size sn_read_survey(const uint8_t *file, size_t file_length,
  *   SN_BAD_LIST_LENGTH      file is not SN_FILE_SIZE(rows, columns)
  *   SN_HEIGHT_OUT_OF_RANGE  place: the first such post
  */
-SN_USE_ANSWER
+SN_USE_ANSWER SN_READS(3, 4) SN_WRITES(5, 6)
 sn_answer sn_write_survey(uint32_t rows, uint32_t columns,
                           const int32_t *heights, size_t heights_length,
                           uint8_t *file, size_t file_length);

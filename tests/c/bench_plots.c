@@ -1,7 +1,7 @@
 /*
- * Document 01's bench plots through the C calls. Compiles as C99 and as C++.
- * Every list is its own piece of the heap, exactly as long as lent, so that a
- * memory checker sees a byte too many.
+ * "Example plots" of docs/SPECIFICATION.md through the C calls. Compiles as C99 and
+ * as C++. Every list is its own piece of the heap, exactly as long as lent, so that
+ * a memory checker sees a byte too many.
  */
 #include "surface_network.h"
 

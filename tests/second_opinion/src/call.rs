@@ -48,7 +48,7 @@ pub struct Call {
 }
 
 impl Call {
-    /// The answer by document 01; the lists become what the call must leave.
+    /// The answer by docs/SPECIFICATION.md; the lists become what the call must leave.
     pub fn by_opinion(&mut self) -> Vec<u32> {
         let Call {
             kind,

@@ -24,17 +24,15 @@ pub fn listing(input: &[u8]) -> String {
     let plot = Plot { rows, columns, heights: &heights };
     let [peaks, pits, saddles] = counts(&plot.marks());
     let mut text = format!("N {rows} {columns} {peaks} {pits} {saddles}\n");
-    let (dales, hills) = (plot.ends(Way::Down), plot.ends(Way::Up));
     for saddle in (0..plot.posts()).filter(|&p| plot.is_saddle(p)) {
-        for (letter, way, ends) in [('T', Way::Down, &dales), ('R', Way::Up, &hills)] {
+        for (letter, way) in [('T', Way::Down), ('R', Way::Up)] {
             for (number, run) in plot.runs(saddle, way).iter().enumerate() {
-                // A line goes on from its second entry by the next ones: it ends
-                // where that post's does.
-                let end = match plot.extreme(way, run) {
-                    VIRTUAL_PIT => VIRTUAL_PIT,
-                    second => ends[second],
+                // The lister takes its ends from dales and hills; here each line is walked.
+                let line = plot.line(saddle, way, run);
+                let end = match line[line.len() - 1] {
+                    VIRTUAL_PIT => "V".to_string(),
+                    post => post.to_string(),
                 };
-                let end = if end == VIRTUAL_PIT { "V".to_string() } else { end.to_string() };
                 writeln!(text, "{letter} {saddle} {number} {end}").unwrap();
             }
         }

@@ -1,5 +1,5 @@
 //! Compares the library, through its C calls, with an implementation written
-//! apart from it, from document 01 alone.
+//! apart from it, from docs/SPECIFICATION.md alone.
 //!
 //!     second_opinion [--long] [--seed N] [--stop] [--lister PROGRAM]
 //!     second_opinion --list <FILE

@@ -1,4 +1,4 @@
-//! Every call as document 01 tells it: the refusal table, then the answer. A
+//! Every call as docs/SPECIFICATION.md tells it: the refusals, then the answer. A
 //! list is handed in as lent and comes back as the call must leave it.
 
 use crate::surface::{counts, Plot, Way, VIRTUAL_PIT};

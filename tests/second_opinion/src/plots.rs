@@ -22,6 +22,17 @@ impl Chance {
         low + self.below((high - low + 1) as usize) as i32
     }
 
+    /// So many numbers from 0 to n - 1, no two alike.
+    pub fn some(&mut self, count: usize, n: usize) -> Vec<usize> {
+        let mut all: Vec<usize> = (0..n).collect();
+        for i in 0..count {
+            let other = i + self.below(n - i);
+            all.swap(i, other);
+        }
+        all.truncate(count);
+        all
+    }
+
     pub fn one_in(&mut self, n: usize) -> bool {
         self.below(n) == 0
     }
@@ -66,7 +77,7 @@ pub fn ground(kind: &str, rows: usize, columns: usize, chance: &mut Chance) -> V
         "checkerboard" => {
             let (low, high) = (chance.within(-5, 5), chance.within(-5, 5));
             (0..posts)
-                .map(|p| if (p / columns + p % columns) % 2 == 0 { low } else { high })
+                .map(|p| if (p / columns + p % columns) % 2 == 1 { high } else { low })
                 .collect()
         }
         "smooth" => {

@@ -1,4 +1,4 @@
-//! Document 01's surface network, said as plainly as possible and not fast:
+//! The surface network of docs/SPECIFICATION.md, said as plainly as possible and not fast:
 //! order, edges, ring, runs, marks, walks, lines, dales and hills.
 
 pub const VIRTUAL_PIT: usize = 65535;

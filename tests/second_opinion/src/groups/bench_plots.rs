@@ -1,4 +1,4 @@
-//! Document 01's bench plots, by their printed values.
+//! The plots of "Example plots" in docs/SPECIFICATION.md, by their printed values.
 
 use super::files::read;
 use crate::call::{Call, Kind};

@@ -73,7 +73,7 @@ pub fn heights(t: &mut Tester, chance: &mut Chance) {
             for post in 0..6 {
                 let mut call = good(kind, 3, 2, &[2, 0, 0, 3, 1, 0], chance);
                 if kind == Kind::ReadSurvey {
-                    let tenths = height.saturating_mul(10);
+                    let tenths = height.checked_mul(10).unwrap_or(height);
                     call.file[7 + 4 * post..][..4].copy_from_slice(&tenths.to_be_bytes());
                 } else {
                     call.heights[post] = height;
@@ -119,8 +119,10 @@ pub fn posts_and_runs(t: &mut Tester, chance: &mut Chance) {
                     law((answer[0] == 5) == (post >= posts), "refusal 5", &call)
                 }));
             }
-            for run in [0, 1, 2, 3, 4, 5, 255, 256, 65535, 65536, 1 << 31, u32::MAX] {
-                t.case(t.agree(&Call { run, ..base.clone() }).map(drop));
+            if matches!(kind, Kind::Thalweg | Kind::Ridge) {
+                for run in [0, 1, 2, 3, 4, 5, 255, 256, 65535, 65536, 1 << 31, u32::MAX] {
+                    t.case(t.agree(&Call { run, ..base.clone() }).map(drop));
+                }
             }
         }
     }
@@ -129,28 +131,44 @@ pub fn posts_and_runs(t: &mut Tester, chance: &mut Chance) {
 pub fn lengths(t: &mut Tester, chance: &mut Chance) {
     t.group("lengths of lists");
     for kind in KINDS {
-        let lengths = |n: usize| [0, 1, n - 1, n, n + 1, 2 * n];
         let base = good(kind, 3, 3, &[0, 2, 0, 2, 1, 2, 0, 2, 0], chance);
-        for n in lengths(9) {
-            for m in lengths(9) {
-                for k in lengths(if base.file.is_empty() { 9 } else { base.file.len() }) {
-                    let mut call = base.clone();
-                    call.heights.resize(n, 0);
-                    match kind {
-                        Kind::Survey | Kind::Reshoot => call.marks.resize(m, 0),
-                        Kind::Thalweg | Kind::Ridge => call.line.resize(m, 0),
-                        Kind::ReadSurvey | Kind::WriteSurvey => call.file.resize(k, 0),
-                        Kind::DalesAndHills => {
-                            call.dales.resize(m, 0);
-                            call.hills.resize(k, 0);
-                        }
-                        Kind::NextDown | Kind::NextUp => {}
-                    }
-                    t.case(t.agree(&call).map(drop));
-                }
-            }
+        for call in with_lengths(base) {
+            t.case(t.agree(&call).map(drop));
         }
     }
+}
+
+/// The call with each list that its kind lends at each length, one with another.
+fn with_lengths(base: Call) -> Vec<Call> {
+    let (kind, file) = (base.kind, base.file.len());
+    let calls = resized(vec![base], 9, |call| &mut call.heights);
+    match kind {
+        Kind::NextDown | Kind::NextUp => calls,
+        Kind::Survey | Kind::Reshoot => resized(calls, 9, |call| &mut call.marks),
+        Kind::Thalweg | Kind::Ridge => resized(calls, 9, |call| &mut call.line),
+        Kind::ReadSurvey | Kind::WriteSurvey => resized(calls, file, |call| &mut call.file),
+        Kind::DalesAndHills => {
+            let calls = resized(calls, 9, |call| &mut call.dales);
+            resized(calls, 9, |call| &mut call.hills)
+        }
+    }
+}
+
+/// Each call with one list at every length about a size.
+fn resized<T: Clone + Default>(
+    calls: Vec<Call>,
+    size: usize,
+    list: fn(&mut Call) -> &mut Vec<T>,
+) -> Vec<Call> {
+    let mut all = Vec::new();
+    for call in calls {
+        for length in [0, 1, size - 1, size, size + 1, 2 * size] {
+            let mut call = call.clone();
+            list(&mut call).resize(length, T::default());
+            all.push(call);
+        }
+    }
+    all
 }
 
 /// A call remembers nothing: the same list may be lent as another shape.

@@ -33,11 +33,11 @@ pub fn round_trip(t: &mut Tester, chance: &mut Chance, times: usize) {
 
 pub fn every_tenth(t: &mut Tester) {
     t.group("files: every tenth, and the bounds");
-    let bounds = [0, 1, -1].iter().flat_map(|sign| (9_999_980..=10_000_020).map(move |t| sign * t));
+    let bounds = [1, -1].iter().flat_map(|sign| (9_999_980..=10_000_020).map(move |t| sign * t));
     let extremes = [i32::MAX, i32::MIN, i32::MAX - 1, i32::MIN + 1];
     for tenths in (-50..=50).chain(bounds).chain(extremes) {
         for post in 0..4 {
-            let mut list = [3, 14, -15, 26];
+            let mut list = [103, 114, -115, 126];
             list[post] = tenths;
             let call = read(file_of(2, 2, &list), 4);
             t.case(t.agree(&call).and_then(|(answer, left)| {

@@ -21,10 +21,7 @@ pub fn whole_plot(
     let posts = plot.posts();
     let marks = survey(t, &plot, chance)?;
     let parted = parting(t, &plot, &marks, chance)?;
-    let mut asked: Vec<usize> = (0..posts).collect();
-    if posts > most {
-        asked = (0..most).map(|_| chance.below(posts)).collect();
-    }
+    let asked = if posts > most { chance.some(most, posts) } else { (0..posts).collect() };
     for ((way, next, line), names) in WAYS.into_iter().zip([&parted.dales, &parted.hills]) {
         let steps = next_posts(t, &plot, way, good(next, rows, columns, heights, chance), &asked)?;
         if asked.len() == posts {

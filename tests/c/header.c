@@ -1,0 +1,116 @@
+/*
+ * What the header has beside the calls: version, sizes, codes in words, and what a
+ * mark says. Compiles as C89 and later and as C++, and so without a C cast.
+ */
+#include "surface_network.h"
+
+#include <stdio.h>
+#include <string.h>
+
+static int passed, failed;
+
+static void check(int holds, const char *what)
+{
+    if (holds) {
+        passed++;
+    } else {
+        failed++;
+        printf("FAILED: %s\n", what);
+    }
+}
+
+/* A file's size is a constant: an array can have it. */
+typedef uint8_t largest_file[SN_FILE_SIZE(SN_MAX_SIDE, SN_MAX_SIDE)];
+
+static void sizes(void)
+{
+    uint32_t rows = 3, columns = 4;
+    int side = 2;
+
+    check(sizeof(largest_file) == SN_MAX_FILE, "the largest file");
+    check(SN_MAX_POSTS == SN_MAX_SIDE * SN_MAX_SIDE, "posts");
+    check(SN_MAX_LINE == SN_MAX_POSTS + 1, "entries of a line");
+    check(SN_FILE_SIZE(rows, columns) == 55, "the file of 3 by 4 posts");
+    check(SN_FILE_SIZE(side, side + 1) == 31, "the file of 2 by 3 posts");
+}
+
+static void version(void)
+{
+    char text[40];
+
+    sprintf(text, "%d.%d.%d", SN_VERSION_MAJOR, SN_VERSION_MINOR, SN_VERSION_PATCH);
+    check(strcmp(text, SN_VERSION) == 0, "the version as text");
+}
+
+static void codes(void)
+{
+    uint32_t code, other;
+
+    for (code = 0; code <= SN_BAD_COUNT + 1; code++) {
+        check(strlen(sn_code_text(code)) > 5, "a code has words");
+        for (other = 0; other < code; other++)
+            check(strcmp(sn_code_text(code), sn_code_text(other)) != 0, "words of its own");
+    }
+    check(strcmp(sn_code_text(SN_BAD_COUNT + 1), sn_code_text(UINT32_MAX)) == 0, "no such code");
+}
+
+static void marks_alone(void)
+{
+    static const uint32_t runs[6] = {0, 0, 0, 2, 3, 4};
+    uint32_t mark;
+
+    for (mark = SN_ORDINARY; mark <= SN_SADDLE_3; mark++) {
+        check(SN_IS_SADDLE(mark) == (runs[mark] != 0), "is a saddle");
+        check(SN_SADDLE_RUNS(mark) == runs[mark], "runs of a mark");
+        check(SN_MULTIPLICITY(mark) == (runs[mark] ? runs[mark] - 1 : 0), "multiplicity of a mark");
+    }
+}
+
+/* A post has a thalweg and a ridge for each of its runs, and no more. */
+static void lines_of(const int32_t *heights, uint32_t post, uint8_t mark)
+{
+    uint16_t line[10];
+    uint32_t run, runs = SN_SADDLE_RUNS(mark), end = SN_IS_SADDLE(mark) ? 8 : 7;
+    sn_entries down, up;
+
+    for (run = 0; run <= runs; run++) {
+        down = sn_thalweg(3, 3, heights, 9, post, run, line, 10);
+        up = sn_ridge(3, 3, heights, 9, post, run, line, 10);
+        check(down.code == (run < runs ? 0 : end), "a thalweg for each run");
+        check(up.code == (run < runs ? 0 : end), "a ridge for each run");
+    }
+}
+
+/* A plot whose middle has a mark. */
+static void marks_of(const int32_t *heights, uint8_t middle)
+{
+    uint8_t marks[9];
+    uint32_t post, sum = 0;
+    sn_counts counts = sn_survey(3, 3, heights, 9, marks, 9);
+
+    check(counts.code == SN_OK && marks[4] == middle, "the middle's mark");
+    for (post = 0; post < 9; post++) {
+        sum += SN_MULTIPLICITY(marks[post]);
+        lines_of(heights, post, marks[post]);
+    }
+    check(sum == counts.saddles, "multiplicities make the count");
+}
+
+int main(void)
+{
+    static const int32_t two[9] = {0, 3, 9, 2, 5, 7, 6, 8, 1};
+    static const int32_t three[9] = {2, 2, 0, 2, 1, 2, 0, 2, 0};
+    static const int32_t four[9] = {0, 2, 0, 2, 1, 2, 0, 2, 0};
+    static const int32_t pit[9] = {1, 1, 1, 1, 0, 1, 1, 1, 1};
+
+    sizes();
+    version();
+    codes();
+    marks_alone();
+    marks_of(two, SN_SADDLE_1);
+    marks_of(three, SN_SADDLE_2);
+    marks_of(four, SN_SADDLE_3);
+    marks_of(pit, SN_PIT);
+    printf("%d passed, %d failed\n", passed, failed);
+    return failed != 0;
+}

@@ -1,0 +1,128 @@
+/*
+ * How much stack a call takes: each runs on a stack of its own, which was filled
+ * with a pattern beforehand, on large plots of several kinds.
+ */
+#include "surface_network.h"
+
+#include <stdio.h>
+#include <string.h>
+#include <ucontext.h>
+
+enum { SIDE = 120, POSTS = SIDE * SIDE, BOUND = 2048, PATTERN = 0xa5 };
+
+static int32_t heights[POSTS];
+static uint8_t marks[POSTS], file[SN_MAX_FILE], stack[1 << 16];
+static uint16_t line[SN_MAX_LINE], dales[POSTS], hills[POSTS];
+static uint32_t post, code;
+static ucontext_t here, there;
+
+static void survey(void)
+{
+    code = sn_survey(SIDE, SIDE, heights, POSTS, marks, POSTS).code;
+}
+
+static void reshoot(void)
+{
+    code = sn_reshoot(SIDE, SIDE, heights, POSTS, marks, POSTS, post, heights[post]).code;
+}
+
+static void next_down(void)
+{
+    code = sn_next_down(SIDE, SIDE, heights, POSTS, post).code;
+}
+
+static void next_up(void)
+{
+    code = sn_next_up(SIDE, SIDE, heights, POSTS, post).code;
+}
+
+static void thalweg(void)
+{
+    code = sn_thalweg(SIDE, SIDE, heights, POSTS, post, 0, line, SN_MAX_LINE).code;
+}
+
+static void ridge(void)
+{
+    code = sn_ridge(SIDE, SIDE, heights, POSTS, post, 0, line, SN_MAX_LINE).code;
+}
+
+static void parts(void)
+{
+    code = sn_dales_and_hills(SIDE, SIDE, heights, POSTS, dales, POSTS, hills, POSTS).code;
+}
+
+static void write_file(void)
+{
+    code = sn_write_survey(SIDE, SIDE, heights, POSTS, file, SN_MAX_FILE).code;
+}
+
+static void read_file(void)
+{
+    code = sn_read_survey(file, SN_MAX_FILE, heights, POSTS).code;
+}
+
+static const struct {
+    const char *name;
+    void (*call)(void);
+} calls[9] = {
+    {"survey", survey}, {"re-shoot", reshoot}, {"next down", next_down},
+    {"next up", next_up}, {"thalweg", thalweg}, {"ridge", ridge},
+    {"dales and hills", parts}, {"write", write_file}, {"read", read_file}
+};
+
+/* The bytes of stack that a call touches. */
+static size_t taken(void (*call)(void))
+{
+    size_t untouched = 0;
+
+    memset(stack, PATTERN, sizeof stack);
+    getcontext(&there);
+    there.uc_stack.ss_sp = stack;
+    there.uc_stack.ss_size = sizeof stack;
+    there.uc_link = &here;
+    makecontext(&there, call, 0);
+    swapcontext(&here, &there);
+    while (untouched < sizeof stack && stack[untouched] == PATTERN)
+        untouched++;
+    return sizeof stack - untouched;
+}
+
+/* Heights by chance, of so many kinds; few kinds make level ground. */
+static void fill(uint32_t kinds)
+{
+    uint32_t i, seed = 1;
+
+    for (i = 0; i < POSTS; i++) {
+        seed = seed * 1664525 + 1013904223;
+        heights[i] = (int32_t)((seed >> 8) % kinds);
+    }
+    survey();
+    for (post = POSTS / 2; post < POSTS - 1 && !SN_IS_SADDLE(marks[post]); post++)
+        ;
+}
+
+int main(void)
+{
+    static const uint32_t kinds[3] = {2, 7, 1000000};
+    size_t bytes, most = 0;
+    int i, k, passed = 0, failed = 0;
+
+    for (k = 0; k < 3; k++) {
+        fill(kinds[k]);
+        for (i = 0; i < 9; i++) {
+            code = SN_BAD_COUNT;
+            bytes = taken(calls[i].call);
+            most = bytes > most ? bytes : most;
+            if (code == SN_OK && bytes < BOUND) {
+                passed++;
+            } else {
+                failed++;
+                printf("FAILED: %s, %lu bytes, %s\n", calls[i].name, (unsigned long)bytes,
+                       sn_code_text(code));
+            }
+        }
+    }
+    printf("at most %lu bytes of stack\n", (unsigned long)most);
+    printf("%d passed, %d failed\n", passed, failed);
+    return failed != 0;
+}
