@@ -2,3 +2,4 @@
 pub mod Around
 pub mod Signed
 pub mod Rings
+pub mod Rows

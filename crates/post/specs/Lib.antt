@@ -2,3 +2,4 @@
 pub mod Corners
 pub mod Signs
 pub mod Rings
+pub mod Rows

@@ -3,3 +3,4 @@ pub mod Bools
 pub mod Sum
 pub mod ListOf
 pub mod FirstNot
+pub mod Stores
