@@ -19,7 +19,7 @@ use Rattle.surface.proofs.AnyOrder.Lowest.{lowest-member, lowest-least}
 use Rattle.surface.proofs.OfPlots.HeightOrder.{below-strict}
 use Rattle.post.specs.Corners.{bordersOf, Neighbours}
 use Rattle.post.specs.declared.border.Borders.{Borders}
-use Rattle.post.specs.declared.sign.Corners.{Corners}
+use Rattle.post.specs.declared.corner.Corners.{Corners}
 use Rattle.post.proofs.Around.{both, south-east, north-west, neighbours}
 use Rattle.next.specs.Scan.{inside, cells, step, scan, turn, everyCorner, cornersAbove}
 use Rattle.next.proofs.Scanned.{to-front, up-is, down-is}

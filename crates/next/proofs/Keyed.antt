@@ -16,7 +16,7 @@ use Rattle.surface.proofs.General.FirstNot.{all-at}
 use Rattle.surface.proofs.OfPlots.HeightOrder.{below-lex}
 use Rattle.order.specs.Ties.{Near}
 use Rattle.post.specs.declared.border.Borders.{Borders}
-use Rattle.post.specs.declared.sign.Corners.{Corners}
+use Rattle.post.specs.declared.corner.Corners.{Corners}
 use Rattle.post.specs.Corners.{bordersOf}
 use Rattle.next.specs.declared.key.Block.{Block}
 use Rattle.next.specs.Scan.{inside, scan, turn, everyCorner, cornersAbove}

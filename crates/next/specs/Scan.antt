@@ -4,7 +4,7 @@ use mathlib.Core.Bool.{Bool, true, false, cond, not, _&&_}
 use mathlib.Core.List.{List, [], _∷_}
 use Rattle.surface.specs.Edges.{lowerOf, Place, place}
 use Rattle.post.specs.declared.border.Borders.{Borders}
-use Rattle.post.specs.declared.sign.Corners.{Corners}
+use Rattle.post.specs.declared.corner.Corners.{Corners}
 
 -- a post on no border
 abbrev pub inside : Borders

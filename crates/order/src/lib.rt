@@ -7,6 +7,7 @@ ghost use Prim.Native.Nat.{_+_, _-_, _<_, _≤_};
 ghost use lib.IntN.{pos};
 ghost use lib.Signed.{ltZ};
 ghost use lib.ListN.{length, getD};
+ghost use Rattle.surface.specs.Lists.{stores};
 ghost use Rattle.surface.specs.Plot.{plotOf, posts, maxSide, maxPosts, Vertex, below, Valid, PostOf};
 ghost use Rattle.surface.specs.Edges.{lowerOf};
 ghost use Rattle.surface.specs.Lines.{toward};
@@ -73,6 +74,35 @@ pub fn lower_of(heights: &[i32], grid: Grid, up: bool, p: usize, q: usize) -> us
         return q;
     }
     p
+}
+
+// Flags `at` and on, n of them: whether the posts from q on are below those from p on, which have lower numbers.
+pub fn later_row(
+    heights: &[i32],
+    grid: Grid,
+    p: usize,
+    q: usize,
+    flags: &mut [bool],
+    at: usize,
+    n: usize,
+)
+    requires { ⌜ Valid (plotOf grid (now heights)) × (p < q) × (q + n ≤ posts (plotOf grid (now heights))) × (at + n ≤ length (now flags)) ⌝ }
+    ensures { λ _. ⌜ now (flags .exit) ≡ stores (λ k. below (plotOf grid (now (heights .entry))) (q + (k - at)) (p + (k - at))) at n (now (flags .entry)) ⌝ }
+{
+    let mut i = 0;
+    while i < n {
+        flags[at + i] = later_is_below(heights, grid, p + i, q + i);
+        i += 1;
+    }
+}
+
+// Flags 1 and on of the row that starts at `base`: whether a post is below the one before it in the row. (Only within a row does the order of level
+// posts hang on more than their rows.)
+pub fn east_row(heights: &[i32], grid: Grid, base: usize, flags: &mut [bool])
+    requires { ⌜ Valid (plotOf grid (now heights)) × (base + grid .columns ≤ posts (plotOf grid (now heights))) × (grid .columns ≤ length (now flags)) ⌝ }
+    ensures { λ _. ⌜ now (flags .exit) ≡ stores (λ k. below (plotOf grid (now (heights .entry))) (base + 1 + (k - 1)) (base + (k - 1))) 1 (grid .columns - 1) (now (flags .entry)) ⌝ }
+{
+    later_row(heights, grid, base, base + 1, flags, 1, grid.columns - 1);
 }
 
 // The place of q in the block of nine posts round p: of two level posts in it the one with the lower place is lower.

@@ -8,7 +8,7 @@ use Rattle.surface.specs.Plot.{Sides}
 use Rattle.surface.specs.Edges.{top, bottom, left, right}
 use Rattle.surface.proofs.AnyOrder.Grid.{top-false, bottom-false, not-left, south-right, north-left, east-post}
 use Rattle.surface.proofs.AnyOrder.RingPlaces.{diagonal}
-use Rattle.post.specs.declared.sign.Corners.{Corners}
+use Rattle.post.specs.declared.corner.Corners.{Corners}
 use Rattle.post.specs.Corners.{bordersOf, cornersOf, Neighbours}
 
 -- a corner whose cell is there stands off both borders

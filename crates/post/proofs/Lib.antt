@@ -1,5 +1,5 @@
--- The neighbours of a post, its signs and its ring, as the code works them out.
+-- The neighbours of a post, its mark and its ring, as the code works them out.
 pub mod Around
-pub mod Signed
+pub mod Compared
 pub mod Rings
 pub mod Rows

@@ -4,7 +4,7 @@ use mathlib.Core.Path.{_≡_}
 use mathlib.Core.Bool.{Bool, true, not, _&&_}
 use Rattle.surface.specs.Edges.{top, bottom, left, right}
 use Rattle.post.specs.declared.border.Borders.{Borders}
-use Rattle.post.specs.declared.sign.Corners.{Corners}
+use Rattle.post.specs.declared.corner.Corners.{Corners}
 
 abbrev pub bordersOf : ℕ → ℕ → ℕ → Borders
 bordersOf rows columns p = record { top = top columns p; bottom = bottom rows columns p; left = left columns p; right = right columns p }

@@ -8,7 +8,7 @@ use Rattle.surface.specs.Lists.{keep}
 use Rattle.surface.specs.Plot.{virtualPit}
 use Rattle.surface.specs.Edges.{Place, place}
 use Rattle.post.specs.declared.border.Borders.{Borders}
-use Rattle.post.specs.declared.sign.Corners.{Corners}
+use Rattle.post.specs.declared.corner.Corners.{Corners}
 use Rattle.post.specs.declared.ring.Ring.{Ring}
 
 -- the members that a ring has so far

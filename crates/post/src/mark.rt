@@ -1,22 +1,40 @@
-// The mark of a post.
-use crate::sign::Signs;
-use crate::sign::signs_at;
+// The mark of a post, by which of the eight posts round it are below it. The diagonals need not be known: from one side of a post round to the next, a
+// lower run starts exactly where the first side is not below the post and the second, or the corner between them, is.
+use crate::border::Borders;
+use crate::border::borders_of;
+use order::earlier_is_below;
+use order::later_is_below;
 use surface::Grid;
 ghost use mathlib.Core.Path.{_≡_};
-ghost use Prim.Native.Nat.{_≤_};
-ghost use Rattle.surface.specs.Plot.{plotOf, PostOf};
+ghost use mathlib.Core.Bool.{true, cond, not, _&&_, _||_};
+ghost use Prim.Native.Nat.{_+_, _-_, _≤_, _<_};
+ghost use Rattle.surface.specs.Lists.{one};
+ghost use Rattle.surface.specs.Plot.{plotOf, posts, below, Valid, PostOf};
 ghost use Rattle.surface.specs.Marks.{markAt};
-ghost use Rattle.surface.specs.Signs.{rise, markBy, markOfSigns};
-ghost use Rattle.post.specs.Signs.{asSigns};
+ghost use Rattle.surface.specs.Flags.{markBy};
+ghost use Rattle.post.specs.Corners.{bordersOf};
+ghost use Rattle.post.specs.Flags.{markFrom, Compared};
 
-// 1 where a lower run starts at the second of two places, else 0.
-fn rise(a: bool, b: bool) -> u8
-    ensures { λ r. ⌜ (r ≡ rise a b) × (r ≤ 1) ⌝ }
-{
-    (b & !a) as u8
+// Which of the posts round a post are below it. Beyond a border is the virtual pit, which is.
+pub struct Below {
+    pub n: bool,
+    pub ne: bool,
+    pub e: bool,
+    pub se: bool,
+    pub s: bool,
+    pub sw: bool,
+    pub w: bool,
+    pub nw: bool,
 }
 
-// The mark by the sign of the first place and the number of lower runs that start: where none does, all signs are alike. A sum of two terms of which
+// 1 where a lower run starts between two sides, one after the other, or at the corner between them; else 0.
+fn starts(before: bool, corner: bool, after: bool) -> u8
+    ensures { λ r. ⌜ (r ≡ one (not before && (after || corner))) × (r ≤ 1) ⌝ }
+{
+    (!before & (after | corner)) as u8
+}
+
+// The mark by whether the first side is below and the number of lower runs that start: where none does, all members are of one sort. A sum of two terms of which
 // at most one is not 0, and no branch, since a mark is a toss-up that no processor foresees.
 fn mark_by(first: bool, runs: u8) -> u8
     requires { ⌜ runs ≤ 8 ⌝ }
@@ -27,19 +45,55 @@ fn mark_by(first: bool, runs: u8) -> u8
     saddle + extreme
 }
 
-// The mark of a post with these signs.
-fn mark_of(g: Signs) -> u8
-    ensures { λ r. ⌜ r ≡ markOfSigns (asSigns g) ⌝ }
+// The mark of a post round which these are below it.
+pub fn mark_of(b: Below) -> u8
+    ensures { λ r. ⌜ r ≡ markFrom b ⌝ }
 {
-    let n = rise(g.nw, g.n);
-    let ne = rise(g.n, g.ne);
-    let e = rise(g.ne, g.e);
-    let se = rise(g.e, g.se);
-    let s = rise(g.se, g.s);
-    let sw = rise(g.s, g.sw);
-    let w = rise(g.sw, g.w);
-    let nw = rise(g.w, g.nw);
-    mark_by(g.n, n + ne + e + se + s + sw + w + nw)
+    let ne = starts(b.n, b.ne, b.e);
+    let se = starts(b.e, b.se, b.s);
+    let sw = starts(b.s, b.sw, b.w);
+    let nw = starts(b.w, b.nw, b.n);
+    mark_by(b.n, ne + se + sw + nw)
+}
+
+// The post d numbers before p is below p, or it is not there.
+fn back(heights: &[i32], grid: Grid, p: usize, d: usize, there: bool) -> bool
+    requires { ⌜ PostOf (plotOf grid (now heights)) p × (there ≡ true → (1 ≤ d) × (d ≤ p)) ⌝ }
+    ensures { λ r. ⌜ r ≡ cond there (below (plotOf grid (now (heights .entry))) (p - d) p) true ⌝ }
+{
+    if there {
+        return earlier_is_below(heights, grid, p, p - d);
+    }
+    true
+}
+
+// The post d numbers after p is below p, or it is not there.
+fn ahead(heights: &[i32], grid: Grid, p: usize, d: usize, there: bool) -> bool
+    requires { ⌜ Valid (plotOf grid (now heights)) × (there ≡ true → (1 ≤ d) × (p + d < posts (plotOf grid (now heights)))) ⌝ }
+    ensures { λ r. ⌜ r ≡ cond there (below (plotOf grid (now (heights .entry))) (p + d) p) true ⌝ }
+{
+    if there {
+        return later_is_below(heights, grid, p, p + d);
+    }
+    true
+}
+
+// Which posts round p, which stands at these borders, are below it.
+fn below_at(heights: &[i32], grid: Grid, p: usize, at: Borders) -> Below
+    requires { ⌜ PostOf (plotOf grid (now heights)) p × (at ≡ bordersOf (grid .rows) (grid .columns) p) ⌝ }
+    ensures { λ r. ⌜ Compared (plotOf grid (now (heights .entry))) p r ⌝ }
+{
+    let columns = grid.columns;
+    Below {
+        n: back(heights, grid, p, columns, !at.top),
+        ne: back(heights, grid, p, columns - 1, !at.top & !at.right),
+        e: ahead(heights, grid, p, 1, !at.right),
+        se: ahead(heights, grid, p, columns + 1, !at.right & !at.bottom),
+        s: ahead(heights, grid, p, columns, !at.bottom),
+        sw: ahead(heights, grid, p, columns - 1, !at.bottom & !at.left),
+        w: back(heights, grid, p, 1, !at.left),
+        nw: back(heights, grid, p, columns + 1, !at.left & !at.top),
+    }
 }
 
 // The mark of any post.
@@ -47,5 +101,6 @@ pub fn mark_at(heights: &[i32], grid: Grid, p: usize) -> u8
     requires { ⌜ PostOf (plotOf grid (now heights)) p ⌝ }
     ensures { λ r. ⌜ r ≡ markAt (plotOf grid (now (heights .entry))) p ⌝ }
 {
-    mark_of(signs_at(heights, grid, p))
+    let at = borders_of(grid, p);
+    mark_of(below_at(heights, grid, p, at))
 }

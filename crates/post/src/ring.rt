@@ -1,8 +1,8 @@
 // The ring of a post: its neighbours clockwise from north, the virtual pit among them where the post stands on a border.
 use crate::border::Borders;
 use crate::border::borders_of;
-use crate::sign::Corners;
-use crate::sign::corners_of;
+use crate::corner::Corners;
+use crate::corner::corners_of;
 use surface::Grid;
 use surface::VIRTUAL_PIT;
 ghost use mathlib.Core.Path.{_≡_};

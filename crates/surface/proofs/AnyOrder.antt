@@ -11,6 +11,7 @@ pub mod CellFlags
 pub mod Runs
 pub mod RunMembers
 pub mod Signs
+pub mod MarkFlags
 pub mod Turns
 pub mod Census
 pub mod Balance

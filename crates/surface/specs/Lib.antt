@@ -1,5 +1,5 @@
 -- The definitions of docs/SPECIFICATION.md, a file for each of its sections. These files are what a reader must believe; the laws are in proofs/.
--- (Lists, Signs and Demand are no sections of it. Signs serves the code, and no promise of a call cites it; Demand states what is proved of them all.)
+-- (Lists, Flags and Demand are no sections of it. Flags serves the code, and no promise of a call cites it; Demand states what is proved of them all.)
 --
 -- To read them without knowing the language:
 --     f : A → B, and below it f x = ..       a definition with its type; `abbrev`, `unfoldable` and `pub` may be skipped
@@ -23,7 +23,7 @@ pub mod Lists
 pub mod Plot
 pub mod Edges
 pub mod Marks
-pub mod Signs
+pub mod Flags
 pub mod Lines
 pub mod SurveyFile
 pub mod Refusals

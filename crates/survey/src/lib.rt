@@ -7,6 +7,7 @@ mod verdict;
 use redraw::redraw;
 use surface::Answer;
 use surface::Counts;
+use surface::Grid;
 use verdict::reshoot_verdict;
 use verdict::survey_verdict;
 ghost use mathlib.Core.Path.{_≡_};
@@ -29,7 +30,11 @@ pub fn survey(rows: u32, columns: u32, heights: &[i32], marks: &mut [u8]) -> Cou
             saddles: 0,
         };
     }
-    fill::mark_plot(heights, rows as usize, columns as usize, marks);
+    let grid = Grid {
+        rows: rows as usize,
+        columns: columns as usize,
+    };
+    fill::mark_plot(heights, grid, marks);
     let t = tally::count(marks);
     Counts {
         code: 0,
@@ -58,8 +63,12 @@ pub fn reshoot(
     if code != 0 {
         return verdict;
     }
+    let grid = Grid {
+        rows: rows as usize,
+        columns: columns as usize,
+    };
     let p = post as usize;
     heights[p] = height;
-    redraw(heights, rows as usize, columns as usize, p, marks);
+    redraw(heights, grid, p, marks);
     verdict
 }

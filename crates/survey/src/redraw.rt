@@ -1,11 +1,24 @@
 // The marks round a post, after its height changed: those of the post and of the posts that touch it by side or corner.
-use crate::fill::mark_each;
+use post::mark::mark_at;
+use surface::Grid;
 ghost use mathlib.Core.Path.{_≡_};
-ghost use Prim.Native.Nat.{_+_, _-_, _*_, _<_, min};
+ghost use Prim.Native.Nat.{_+_, _-_, _<_, _≤_, min};
 ghost use lib.ListN.{length};
-ghost use Rattle.surface.specs.Plot.{plot};
-ghost use Rattle.surface.specs.Marks.{redrawn};
-ghost use Rattle.plot.specs.Fits.{Fits};
+ghost use Rattle.surface.specs.Lists.{stores};
+ghost use Rattle.surface.specs.Plot.{plotOf, posts, Valid, PostOf};
+ghost use Rattle.surface.specs.Marks.{markAt, redrawn};
+
+// The marks of n posts from post `from` on, each worked out by itself.
+fn mark_each(heights: &[i32], grid: Grid, from: usize, n: usize, marks: &mut [u8])
+    requires { ⌜ Valid (plotOf grid (now heights)) × (length (now marks) ≡ posts (plotOf grid (now heights))) × (from + n ≤ posts (plotOf grid (now heights))) ⌝ }
+    ensures { λ _. ⌜ now (marks .exit) ≡ stores (markAt (plotOf grid (now (heights .entry)))) from n (now (marks .entry)) ⌝ }
+{
+    let mut i = 0;
+    while i < n {
+        marks[from + i] = mark_at(heights, grid, from + i);
+        i += 1;
+    }
+}
 
 // The row or column before x, or x where it is the first.
 fn before(x: usize) -> usize
@@ -29,18 +42,18 @@ fn end_after(x: usize, n: usize) -> usize
 }
 
 // Works out afresh the marks of the at most nine posts round `post`.
-pub(crate) fn redraw(heights: &[i32], rows: usize, columns: usize, post: usize, marks: &mut [u8])
-    requires { ⌜ Fits (plot rows columns (now heights)) × (length (now marks) ≡ rows * columns) × (post < rows * columns) ⌝ }
-    ensures { λ _. ⌜ now (marks .exit) ≡ redrawn (plot rows columns (now (heights .entry))) (now (marks .entry)) post ⌝ }
+pub(crate) fn redraw(heights: &[i32], grid: Grid, post: usize, marks: &mut [u8])
+    requires { ⌜ PostOf (plotOf grid (now heights)) post × (length (now marks) ≡ posts (plotOf grid (now heights))) ⌝ }
+    ensures { λ _. ⌜ now (marks .exit) ≡ redrawn (plotOf grid (now (heights .entry))) (now (marks .entry)) post ⌝ }
 {
-    let row = post / columns;
-    let column = post % columns;
+    let row = post / grid.columns;
+    let column = post % grid.columns;
     let from = before(column);
-    let width = end_after(column, columns) - from;
-    let end = end_after(row, rows);
+    let width = end_after(column, grid.columns) - from;
+    let end = end_after(row, grid.rows);
     let mut r = before(row);
     while r < end {
-        mark_each(heights, rows, columns, r * columns + from, width, marks);
+        mark_each(heights, grid, r * grid.columns + from, width, marks);
         r += 1;
     }
 }

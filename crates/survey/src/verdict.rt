@@ -1,25 +1,24 @@
 // What a survey and a re-shoot are turned away for.
-use plot::limits::is_height;
-use plot::limits::ranged;
-use plot::limits::sized;
+use limits::heights_verdict;
+use limits::is_height;
+use limits::plot_verdict;
 use surface::Answer;
 ghost use mathlib.Core.Path.{_≡_};
 ghost use Rattle.surface.specs.Plot.{plot};
 ghost use Rattle.surface.specs.Refusals.{surveyVerdict, reshootVerdict};
-ghost use Rattle.surface.specs.Calls.{answer};
 
 // Rows 1, 2, 3 and 4 of the table.
 pub(crate) fn survey_verdict(rows: u32, columns: u32, heights: &[i32], marks: &[u8]) -> Answer
-    ensures { λ r. ⌜ r ≡ answer (surveyVerdict (plot rows columns (now (heights .entry))) (now (marks .entry))) ⌝ }
+    ensures { λ r. ⌜ r ≡ surveyVerdict (plot rows columns (now (heights .entry))) (now (marks .entry)) ⌝ }
 {
-    let code = sized(rows, columns, heights);
-    if code != 0 {
-        return Answer { code, place: 0 };
+    let size = plot_verdict(rows, columns, heights);
+    if size.code != 0 {
+        return size;
     }
     if marks.len() != heights.len() {
         return Answer { code: 3, place: 0 };
     }
-    ranged(heights)
+    heights_verdict(heights)
 }
 
 // Rows 1 to 6.
@@ -31,11 +30,10 @@ pub(crate) fn reshoot_verdict(
     post: u32,
     height: i32,
 ) -> Answer
-    ensures { λ r. ⌜ r ≡ answer (reshootVerdict (plot rows columns (now (heights .entry))) (now (marks .entry)) post height) ⌝ }
+    ensures { λ r. ⌜ r ≡ reshootVerdict (plot rows columns (now (heights .entry))) (now (marks .entry)) post height ⌝ }
 {
     let first = survey_verdict(rows, columns, heights, marks);
-    let code = first.code;
-    if code != 0 {
+    if first.code != 0 {
         return first;
     }
     if heights.len() <= post as usize {
@@ -44,5 +42,5 @@ pub(crate) fn reshoot_verdict(
     if !is_height(height) {
         return Answer { code: 6, place: 0 };
     }
-    first
+    Answer { code: 0, place: 0 }
 }

@@ -12,14 +12,14 @@ use borrow.Author.Tests.{ne-eqb}
 use Rattle.surface.specs.Lists.{listOf, one}
 use Rattle.surface.specs.Plot.{virtualPit, Sides}
 use Rattle.surface.specs.Edges.{top, bottom, left, right, isCell, ring}
-use Rattle.surface.specs.Signs.{Signs, signs, rises, markBy, markOfSigns}
+use Rattle.surface.specs.Flags.{markBy}
 use Rattle.surface.specs.Marks.{mark, multiplicity, peaks, pits, saddles}
 use Rattle.surface.proofs.AnyOrder.Order.{StrictTotal}
 use Rattle.surface.proofs.General.Sum.{sum, sum-ext, sum-add, sum-shift, sum-const, sum-eight}
 use Rattle.surface.proofs.AnyOrder.Grid.{top-true, top-false, bottom-true, bottom-false, south-top, south-left, south-right, east-top, east-bottom, row-fits, left-zero, right-end, east-left-right, left-south, top-bottom, left-right}
 use Rattle.surface.proofs.AnyOrder.Census.{census}
 use Rattle.surface.proofs.General.ListOf.{count-listOf, total-listOf}
-use Rattle.surface.proofs.AnyOrder.Signs.{signs-from, mark-signs}
+use Rattle.surface.proofs.AnyOrder.Signs.{Signs, signs, signs-from, rises, markOfSigns, mark-signs}
 use Rattle.surface.proofs.AnyOrder.Turns.{turn, quarter, when, rise-self, ring-turns}
 
 module _ (lower : ℕ → ℕ → Bool) (o : StrictTotal lower) where

@@ -12,7 +12,7 @@ use borrow.Author.Tests.{eqb-false, ne-eqb}
 use Rattle.surface.specs.Lists.{keep, any, all, lastOr, one}
 use Rattle.surface.specs.Edges.{runs, runsFrom}
 use Rattle.surface.specs.Marks.{markFor}
-use Rattle.surface.specs.Signs.{markBy}
+use Rattle.surface.specs.Flags.{markBy}
 use Rattle.surface.proofs.General.Bools.{and-left, or-left, either}
 
 -- how many runs start in a list, `before` being the side of what stands before it

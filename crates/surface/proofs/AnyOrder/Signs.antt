@@ -1,19 +1,65 @@
--- The mark of a post is settled by its signs.
+-- The eight signs of a post: going round the places N, NE, .. NW, whether the member is below the post; a place with no member has the sign of the place
+-- before it. (At N there is always a member.) The mark of a post is settled by its signs.
 use Prim.Native.Nat.{ℕ, _+_, _-_, _≤_}
 use native.Mathlib.Omega.{arith}
 use mathlib.Core.Path.{_≡_, refl, sym, _∙_, ap, ap₂}
 use mathlib.Core.Bool.{Bool, true, false, cond, not, _&&_, _||_}
 use mathlib.Core.List.{List, [], _∷_, _++_, List·Memᴰ}
 use lib.Dec.{eqb}
-use lib.ListN.{length}
-use Rattle.surface.specs.Lists.{keep, any, all, lastOr}
+use lib.ListN.{getD, length}
+use Rattle.surface.specs.Lists.{keep, any, all, lastOr, one}
 use Rattle.surface.specs.Plot.{virtualPit}
 use Rattle.surface.specs.Edges.{Place, members, places, ring, runs, top, bottom, left, right}
 use Rattle.surface.specs.Marks.{mark, markFor}
-use Rattle.surface.specs.Signs.{Signs, carried, signs, rise, rises, markBy, markOfSigns}
+use Rattle.surface.specs.Flags.{markBy}
 use Rattle.surface.proofs.General.Bools.{either}
 use Rattle.surface.proofs.AnyOrder.Order.{StrictTotal}
 use Rattle.surface.proofs.AnyOrder.Runs.{starts, lastSide, markFor-circle, lastSide-lastOr}
+
+pub record Signs : Type 0 where
+  pub n : Bool
+  pub ne : Bool
+  pub e : Bool
+  pub se : Bool
+  pub s : Bool
+  pub sw : Bool
+  pub w : Bool
+  pub nw : Bool
+
+-- the signs of a list of places, x being the sign before it; `low` tells of a vertex whether it is below the post
+unfoldable pub carried : (ℕ → Bool) → Bool → List Place → List Bool
+carried low x [] = []
+carried low x (y ∷ l) =
+    let g = cond (y .taken) (low (y .member)) x in
+    g ∷ carried low g l
+
+-- the signs of p
+unfoldable pub signs : ℕ → ℕ → (ℕ → Bool) → (ℕ → Bool) → ℕ → Signs
+signs rows columns falls low p =
+    let l = carried low true (places rows columns falls p) in
+    record {
+      n = getD l 0 true;
+      ne = getD l 1 true;
+      e = getD l 2 true;
+      se = getD l 3 true;
+      s = getD l 4 true;
+      sw = getD l 5 true;
+      w = getD l 6 true;
+      nw = getD l 7 true;
+    }
+
+-- a lower run starts where a sign is true and the one before it is not
+abbrev pub rise : Bool → Bool → ℕ
+rise a b = one (b && not a)
+
+-- how many lower runs start
+unfoldable pub rises : Signs → ℕ
+rises g =
+    rise (g .nw) (g .n) + rise (g .n) (g .ne) + rise (g .ne) (g .e) + rise (g .e) (g .se) + rise (g .se) (g .s) + rise (g .s) (g .sw) + rise (g .sw) (g .w)
+    + rise (g .w) (g .nw)
+
+unfoldable pub markOfSigns : Signs → ℕ
+markOfSigns g = markBy (g .n) (rises g)
 
 -- the signs by the sides of p's neighbours: t b f l, on which borders p is; ne se sw nw, whether the cell's diagonal runs to p; N NE .. NW, whether the
 -- neighbour is below p

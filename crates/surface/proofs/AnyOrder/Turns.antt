@@ -4,8 +4,7 @@ use native.Mathlib.Omega.{arith}
 use mathlib.Core.Path.{_≡_, refl}
 use mathlib.Core.Bool.{Bool, true, false, cond, not, _&&_, _||_, true≢false}
 use Rattle.surface.specs.Lists.{one}
-use Rattle.surface.specs.Signs.{Signs, rise, rises}
-use Rattle.surface.proofs.AnyOrder.Signs.{signsFrom}
+use Rattle.surface.proofs.AnyOrder.Signs.{Signs, signsFrom, rise, rises}
 
 -- a change of side
 abbrev pub turn : Bool → Bool → ℕ

@@ -6,7 +6,7 @@ use native.Mathlib.Omega.{arith}
 use lib.Dec.{ltb, eqb}
 use mir.Val.{boolByte}
 use borrow.Author.Tests.{lt-ltb, ne-eqb}
-use Rattle.surface.specs.Signs.{markBy}
+use Rattle.surface.specs.Flags.{markBy}
 use borrow.Author.Needs.{needs}
 use Rattle.post.proofs.mark.mark_by.Statement.{statement}
 use Rattle.post.proofs.mark.mark_by.Tie as tie

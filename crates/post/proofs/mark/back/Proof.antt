@@ -1,8 +1,8 @@
 -- What is asked of a post that is there goes on to the comparison.
 use native.Mathlib.Omega.{arith}
 use borrow.Author.Needs.{needs}
-use Rattle.post.proofs.sign.back.Statement.{statement}
-use Rattle.post.proofs.sign.back.Tie as tie
+use Rattle.post.proofs.mark.back.Statement.{statement}
+use Rattle.post.proofs.mark.back.Tie as tie
 
 sub-earlier-is-below : tie.Need-sub-earlier-is-below
 sub-earlier-is-below c = omega (arith, c .before .pre .1 (c .if1 .taken))

@@ -6,8 +6,8 @@ use Rattle.surface.specs.Plot.{plotOf}
 use Rattle.surface.specs.Edges.{top, bottom, left, right, fallsIn}
 use Rattle.post.proofs.Around.{cell-ne, cell-se, cell-sw, cell-nw, joined-by}
 use borrow.Author.Needs.{needs}
-use Rattle.post.proofs.sign.corners_of.Statement.{statement}
-use Rattle.post.proofs.sign.corners_of.Tie as tie
+use Rattle.post.proofs.corner.corners_of.Statement.{statement}
+use Rattle.post.proofs.corner.corners_of.Tie as tie
 
 falls-back-requires : tie.Need-falls-back-requires
 falls-back-requires c κs = let start = c .before .before .before .before .before .before .before .before in (start .pre .0 .valid, λ h. cell-ne (start .pre .0 .valid .sides) (start .args .p) (start .pre .0 .post) (rw (start .pre .1) at h))

@@ -1,8 +1,8 @@
 -- What is asked of a post that is there goes on to the comparison.
 use native.Mathlib.Omega.{arith}
 use borrow.Author.Needs.{needs}
-use Rattle.post.proofs.sign.ahead.Statement.{statement}
-use Rattle.post.proofs.sign.ahead.Tie as tie
+use Rattle.post.proofs.mark.ahead.Statement.{statement}
+use Rattle.post.proofs.mark.ahead.Tie as tie
 
 add-later-is-below : tie.Need-add-later-is-below
 add-later-is-below c = let k = c .before .pre .1 (c .if1 .taken) in omega (arith, k, c .before .pre .0 .sides)
