@@ -11,3 +11,5 @@ pub mod Sizes
 pub mod Rings
 pub mod Stores
 pub mod Rows
+pub mod CellFlags
+pub mod MarkFlags
