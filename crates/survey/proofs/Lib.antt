@@ -1,2 +1,4 @@
--- Laws that the proofs of this crate cite.
+-- Scans of a list of marks; what rows of flags tell; a block of marks stored afresh.
+pub mod Scans
+pub mod Told
 pub mod Painted

@@ -6,17 +6,16 @@ use mathlib.Core.Path.{_≡_, refl, sym, _∙_, ap, ap₂}
 use mathlib.Core.Bool.{Bool, true, false, cond, _&&_, and-false, true≢false}
 use mathlib.Core.List.{List}
 use lib.Dec.{leb, ltb}
-use lib.IntN.{ℤ}
 use lib.ListN.{length, getD}
 use lib.Seq.{ext-getD}
 use borrow.Author.Tests.{leb-true, ltb-true, le-leb, lt-ltb, le-ltb}
-use Rattle.surface.specs.Plot.{Plot, posts, row, column}
+use Rattle.surface.specs.Plot.{Plot, posts, row, column, Sides}
 use Rattle.surface.specs.Marks.{near, touches, markAt, redrawn}
-use Rattle.surface.proofs.Bools.{either, same-test, and-left, and-right}
-use Rattle.surface.proofs.ListOf.{length-listOf, getD-listOf}
-use Rattle.surface.proofs.Grid.{Sides, post-is, row-is, column-lt, row-lt}
-use Rattle.plot.specs.Stores.{stores}
-use Rattle.plot.proofs.Stores.{length-stores, stores-in, stores-out}
+use Rattle.surface.proofs.General.Bools.{either, same-test, and-left, and-right}
+use Rattle.surface.proofs.General.ListOf.{length-listOf, getD-listOf}
+use Rattle.surface.proofs.AnyOrder.Grid.{post-is, row-is, column-lt, row-lt}
+use Rattle.surface.specs.Lists.{stores}
+use Rattle.surface.proofs.General.Stores.{length-stores, stores-in, stores-out}
 
 -- a number in from, from + 1, .. to - 1
 abbrev pub within : ℕ → ℕ → ℕ → Bool

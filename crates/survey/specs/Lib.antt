@@ -1,2 +1,3 @@
--- What the parts of a call give each other.
+-- What the parts of a survey give each other.
+pub mod Rows
 pub mod Tally

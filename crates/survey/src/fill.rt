@@ -1,111 +1,147 @@
-// The marks of a whole plot, a row at a time. The diagonals of the cells below a row are worked out once, and serve the row below it too.
-use plot::mark;
-use plot::row::falls_row;
+// The marks of a whole plot, a row at a time, every edge compared once.
+use order::east_row;
+use order::later_row;
+use post::mark::Below;
+use post::mark::mark_of;
+use surface::Grid;
 ghost use mathlib.Core.Path.{_≡_};
-ghost use Prim.Native.Nat.{_+_, _-_, _*_, _≤_, _<_};
-ghost use lib.ListN.{length};
-ghost use Rattle.surface.specs.Plot.{plot};
-ghost use Rattle.surface.specs.Marks.{markAt, marksOf};
-ghost use Rattle.plot.specs.Fits.{Fits};
-ghost use Rattle.plot.specs.Stores.{stores};
-ghost use Rattle.plot.specs.Rows.{Inner};
+ghost use mathlib.Core.Bool.{true};
+ghost use Prim.Native.Nat.{_+_, _-_, _≤_, _<_};
+ghost use lib.ListN.{length, getD};
+ghost use Rattle.surface.specs.Lists.{stores};
+ghost use Rattle.surface.specs.Plot.{plotOf, posts, Valid};
+ghost use Rattle.surface.specs.Marks.{marksOf};
+ghost use Rattle.post.specs.Flags.{markFrom};
+ghost use Rattle.survey.specs.Rows.{roundOf, RowOf, South, SouthLong, Wide};
 
-// The marks of the posts of a row that is neither the top nor the bottom one, without its two ends.
-fn mark_inner(
-    heights: &[i32],
-    rows: usize,
-    columns: usize,
-    base: usize,
-    above: &[bool],
-    here: &[bool],
-    marks: &mut [u8],
-)
-    requires { ⌜ Inner (plot rows columns (now heights)) base (now above) (now here) × (length (now marks) ≡ rows * columns) ⌝ }
-    ensures { λ _. ⌜ now (marks .exit) ≡ stores (markAt (plot rows columns (now (heights .entry)))) (base + 1) (columns - 2) (now (marks .entry)) ⌝ }
+// A row is worked on in whole blocks of 16 posts, the last one filled up, so that no post is left over from the vector code; two flags more than that.
+const WIDTH: usize = 128;
+
+const FLAGS: usize = 130;
+
+// Sets the first n flags.
+fn fill_row(flags: &mut [bool], n: usize)
+    requires { ⌜ n ≤ length (now flags) ⌝ }
+    ensures { λ _. ⌜ now (flags .exit) ≡ stores (λ _. true) 0 n (now (flags .entry)) ⌝ }
 {
-    let mut c = 1;
-    while c + 1 < columns {
-        marks[base + c] = mark::mark_inside(
-            heights,
-            rows,
-            columns,
-            base + c,
-            above[c - 1],
-            above[c],
-            here[c - 1],
-            here[c],
-        );
+    let mut c = 0;
+    while c < n {
+        flags[c] = true;
         c += 1;
     }
 }
 
-// The marks of n posts from post `from` on, each worked out by itself.
-pub(crate) fn mark_each(
-    heights: &[i32],
-    rows: usize,
-    columns: usize,
-    from: usize,
-    n: usize,
-    marks: &mut [u8],
-)
-    requires { ⌜ Fits (plot rows columns (now heights)) × (length (now marks) ≡ rows * columns) × (from + n ≤ rows * columns) ⌝ }
-    ensures { λ _. ⌜ now (marks .exit) ≡ stores (markAt (plot rows columns (now (heights .entry)))) from n (now (marks .entry)) ⌝ }
+// Copies the first n marks to those from `at` on.
+fn copy_row(from: &[u8], n: usize, marks: &mut [u8], at: usize)
+    requires { ⌜ (n ≤ length (now from)) × (at + n ≤ length (now marks)) ⌝ }
+    ensures { λ _. ⌜ now (marks .exit) ≡ stores (λ k. getD (now (from .entry)) (k - at) 0) at n (now (marks .entry)) ⌝ }
 {
-    let mut i = 0;
-    while i < n {
-        marks[from + i] = mark::mark_at(heights, rows, columns, from + i);
-        i += 1;
+    let mut c = 0;
+    while c < n {
+        marks[at + c] = from[c];
+        c += 1;
     }
 }
 
-// The marks of a row that is neither the top nor the bottom one.
-fn mark_row(
+// The flags of the edges from the row that starts at `base` to the one below it; below the bottom row is the virtual pit.
+fn south_rows(
     heights: &[i32],
-    rows: usize,
-    columns: usize,
+    grid: Grid,
     base: usize,
-    above: &[bool],
-    here: &[bool],
-    marks: &mut [u8],
+    south: &mut [bool],
+    sfall: &mut [bool],
+    srise: &mut [bool],
 )
-    requires { ⌜ Inner (plot rows columns (now heights)) base (now above) (now here) × (length (now marks) ≡ rows * columns) ⌝ }
-    ensures { λ _. ⌜ now (marks .exit) ≡ stores (markAt (plot rows columns (now (heights .entry)))) base columns (now (marks .entry)) ⌝ }
+    requires { ⌜ Valid (plotOf grid (now heights)) × RowOf (grid .rows) (grid .columns) base × SouthLong (grid .columns) (now south) (now sfall) (now srise) ⌝ }
+    ensures { λ _. ⌜ South (plotOf grid (now (heights .entry))) base (now (south .exit)) (now (sfall .exit)) (now (srise .exit)) ⌝ }
 {
-    mark_each(heights, rows, columns, base, 1, marks);
-    mark_inner(heights, rows, columns, base, above, here, marks);
-    mark_each(heights, rows, columns, base + (columns - 1), 1, marks);
+    let columns = grid.columns;
+    let next = base + columns;
+    if next < heights.len() {
+        later_row(heights, grid, base, next, south, 0, columns);
+        later_row(heights, grid, base, next + 1, sfall, 1, columns - 1);
+        later_row(heights, grid, base + 1, next, srise, 1, columns - 1);
+        return;
+    }
+    fill_row(south, columns);
 }
 
-// The marks of every row between the top and the bottom one.
-fn mark_rows(heights: &[i32], rows: usize, columns: usize, marks: &mut [u8])
-    requires { ⌜ Fits (plot rows columns (now heights)) × (length (now marks) ≡ rows * columns) ⌝ }
-    ensures { λ _. ⌜ now (marks .exit) ≡ stores (markAt (plot rows columns (now (heights .entry)))) columns (rows * columns - columns - columns) (now (marks .entry)) ⌝ }
+// The marks of the first posts of a row by the flags round it.
+fn mark_row(
+    north: &[bool],
+    nfall: &[bool],
+    nrise: &[bool],
+    side: &[bool],
+    south: &[bool],
+    sfall: &[bool],
+    srise: &[bool],
+    out: &mut [u8],
+    width: usize,
+)
+    requires { ⌜ Wide width (now north) (now nfall) (now nrise) (now side) (now south) (now sfall) (now srise) × (width ≤ length (now out)) ⌝ }
+    ensures { λ _. ⌜ now (out .exit) ≡ stores (λ c. markFrom (roundOf (now (north .entry)) (now (nfall .entry)) (now (nrise .entry)) (now (side .entry)) (now (south .entry)) (now (sfall .entry)) (now (srise .entry)) c)) 0 width (now (out .entry)) ⌝ }
 {
-    let mut above = [false; 120];
-    let mut here = [false; 120];
-    falls_row(heights, columns, 0, &mut above);
-    let mut r = 1;
-    while r + 1 < rows {
-        falls_row(heights, columns, r * columns, &mut here);
-        mark_row(heights, rows, columns, r * columns, &above, &here, marks);
-        above = here;
-        r += 1;
+    let mut c = 0;
+    while c < width {
+        let n = !north[c];
+        let ne = !nrise[c + 1];
+        let e = side[c + 1];
+        let se = sfall[c + 1];
+        let s = south[c];
+        let sw = srise[c];
+        let w = !side[c];
+        let nw = !nfall[c];
+        out[c] = mark_of(Below {
+            n,
+            ne,
+            e,
+            se,
+            s,
+            sw,
+            w,
+            nw,
+        });
+        c += 1;
     }
 }
 
 // The marks of a whole plot.
-pub(crate) fn mark_plot(heights: &[i32], rows: usize, columns: usize, marks: &mut [u8])
-    requires { ⌜ Fits (plot rows columns (now heights)) × (length (now marks) ≡ rows * columns) ⌝ }
-    ensures { λ _. ⌜ now (marks .exit) ≡ marksOf (plot rows columns (now (heights .entry))) ⌝ }
+pub(crate) fn mark_plot(heights: &[i32], grid: Grid, marks: &mut [u8])
+    requires { ⌜ Valid (plotOf grid (now heights)) × (length (now marks) ≡ posts (plotOf grid (now heights))) ⌝ }
+    ensures { λ _. ⌜ now (marks .exit) ≡ marksOf (plotOf grid (now (heights .entry))) ⌝ }
 {
-    mark_each(heights, rows, columns, 0, columns, marks);
-    mark_rows(heights, rows, columns, marks);
-    mark_each(
-        heights,
-        rows,
-        columns,
-        rows * columns - columns,
-        columns,
-        marks,
-    );
+    let rows = grid.rows;
+    let columns = grid.columns;
+    let mut north = [false; FLAGS];
+    let mut nfall = [false; FLAGS];
+    let mut nrise = [false; FLAGS];
+    let mut side = [false; FLAGS];
+    let mut south = [false; FLAGS];
+    let mut sfall = [false; FLAGS];
+    let mut srise = [false; FLAGS];
+    let mut out = [0u8; WIDTH];
+    side[columns] = true;
+    let width = (columns + 15) / 16 * 16;
+    let mut r = 0;
+    while r < rows {
+        let base = r * columns;
+        east_row(heights, grid, base, &mut side);
+        south_rows(heights, grid, base, &mut south, &mut sfall, &mut srise);
+        mark_row(
+            &north,
+            &nfall,
+            &nrise,
+            &side,
+            &south,
+            &sfall,
+            &srise,
+            &mut out,
+            width,
+        );
+        copy_row(&out, columns, marks, base);
+        north = south;
+        nfall = sfall;
+        nrise = srise;
+        r += 1;
+    }
 }

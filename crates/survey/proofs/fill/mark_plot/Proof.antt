@@ -1,67 +1,192 @@
--- `survey::fill::mark_plot` meets its contract: the rows one after the other, down to the last.
-use Prim.Native.Nat.{_-_, _*_}
+-- The loop's invariant: the rows above row r are marked, and the flags just above it are told.
+use Prim.Native.Nat.{ℕ, _+_, _-_, _*_, _<_}
 use native.Mathlib.Omega.{arith}
-use mathlib.Core.Path.{_∙_}
+use native.Mathlib.Nat.{add-mul, one-mul, zero-mul}
+use mathlib.Core.Path.{_≡_, refl, _∙_}
+use mathlib.Core.Bool.{true, false}
+use lib.ListN.{replicate, length-set}
+use lib.Seq.{getD-set-same, getD-set-other}
+use Rattle.surface.specs.Lists.{stores}
+use Rattle.surface.specs.Plot.{plotOf, Valid}
+use Rattle.surface.specs.Marks.{marksOf}
+use Rattle.surface.proofs.General.Stores.{stores-join, stores-all}
+use Rattle.survey.specs.Rows.{RowOf}
+use Rattle.survey.proofs.Told.{Head, row-of, all-false, north-start, north-next, side-told, row-marked}
 use borrow.Author.Needs.{needs}
-use Rattle.surface.specs.Plot.{plot}
-use Rattle.surface.specs.Marks.{markAt, marksOf}
-use Rattle.plot.proofs.Stores.{stores-join, stores-all}
-use Rattle.plot.proofs.Rows.{fits-two}
 use Rattle.survey.proofs.fill.mark_plot.Statement.{statement}
 use Rattle.survey.proofs.fill.mark_plot.Tie as tie
 
-mark-each-requires : tie.Need-mark-each-requires
-mark-each-requires c κs = let s = c .before .before in (s .pre .0, s .pre .1, omega (arith, fits-two (s .pre .0)))
+abbrev Inv-loop : tie.InvT-loop
+Inv-loop heights grid marks₀ rows columns north₀ nfall₀ nrise₀ side₀ south₀ sfall₀ srise₀ out₀ width r₀ marks north nfall nrise side south sfall srise out r =
+    Head (plotOf grid heights) marks₀ marks north nfall nrise side south sfall srise out width r
 
-mark-rows-requires : tie.Need-mark-rows-requires
-mark-rows-requires c κs = search needs
+abbrev μ-loop : tie.MeasureT-loop
+μ-loop heights grid marks₀ rows columns north₀ nfall₀ nrise₀ side₀ south₀ sfall₀ srise₀ out₀ width r₀ marks north nfall nrise side south sfall srise out r = rows - r
 
-mul-mark-each : tie.Need-mul-mark-each
-mul-mark-each c = search needs
+-- at the head of row r
+valid : (l : tie.At-loop Inv-loop μ-loop) → let a = l .before .before .args in Valid (plotOf (a .grid) (a .heights .now))
+valid l = l .before .before .pre .0
 
-sub-mark-each : tie.Need-sub-mark-each
-sub-mark-each c = omega (arith, fits-two (c .before .before .before .before .before .before .before .before .before .pre .0))
+row : (i : tie.In-loop Inv-loop μ-loop) → let g = i .before .before .before .args .grid in RowOf (g .rows) (g .columns) (i .before .loop .r * g .columns)
+row i = let g = i .before .before .before .args .grid in row-of (g .rows) (g .columns) (i .before .loop .r) (i .loop-test .taken)
 
-mark-each-requires-2 : tie.Need-mark-each-requires-2
-mark-each-requires-2 c κs =
-    let m = c .before .before .before in
-    let e = m .before .before .before .before in
-    let s = e .before .before .before in (
-      s .pre .0,
-      m .mark-rows .kept .1 .1 .1 .0 ∙ e .mark-each .kept .1 .1 .1 .1 .1 .0 ∙ s .pre .1,
-      omega (arith, fits-two (s .pre .0)),
+array-write-side : tie.Need-array-write-side Inv-loop μ-loop
+array-write-side c = omega (arith, c .before .pre .0 .sides)
+
+add-width : tie.Need-add-width Inv-loop μ-loop
+add-width c = omega (arith, c .before .pre .0 .sides)
+
+mul-width : tie.Need-mul-width Inv-loop μ-loop
+mul-width c = omega (arith, c .before .pre .0 .sides)
+
+loop-holds : tie.Need-loop-holds Inv-loop μ-loop
+unfolding stores
+loop-holds c =
+    let f = c .before .pre .0 in
+    let k = c .before .args .grid .columns in
+    let n : k < 130 = omega (arith, f .sides) in
+    record {
+      inside = omega arith;
+      wide = omega arith;
+      narrow = omega (arith, f .sides);
+      marksLong = refl;
+      northLong = refl;
+      nfallLong = refl;
+      nriseLong = refl;
+      sideLong = length-set (replicate 130 false) k true;
+      southLong = refl;
+      sfallLong = refl;
+      sriseLong = refl;
+      outLong = refl;
+      above = rw (zero-mul k) (north-start f _ _ _ (all-false 130));
+      west = getD-set-other (replicate 130 false) k 0 true false (λ e. omega (arith, f .sides)) ∙ all-false 130 0;
+      east = getD-set-same (replicate 130 false) k true false (omega arith);
+      done = rw (zero-mul k);
+    }
+
+mul-base : tie.Need-mul-base Inv-loop μ-loop
+mul-base c = omega (arith, row (c), valid (c .before) .sides)
+
+slice-aggregate-east-row : tie.Need-slice-aggregate-east-row Inv-loop μ-loop
+slice-aggregate-east-row c = search needs
+
+east-row-requires : tie.Need-east-row-requires Inv-loop μ-loop
+east-row-requires c κs = let f = valid (c .before .before) in (f, omega (arith, row (c .before)), omega (arith, f .sides, c .before .before .loop .inv))
+
+slice-aggregate-south-rows : tie.Need-slice-aggregate-south-rows Inv-loop μ-loop
+slice-aggregate-south-rows c = search needs
+
+slice-aggregate-south-rows-2 : tie.Need-slice-aggregate-south-rows-2 Inv-loop μ-loop
+slice-aggregate-south-rows-2 c = search needs
+
+slice-aggregate-south-rows-3 : tie.Need-slice-aggregate-south-rows-3 Inv-loop μ-loop
+slice-aggregate-south-rows-3 c = search needs
+
+south-rows-requires : tie.Need-south-rows-requires Inv-loop μ-loop
+south-rows-requires c κs =
+    let f = valid (c .before .before .before .before .before .before .before) in
+    let v = c .before .before .before .before .before .before .before .loop .inv in
+    (f, row (c .before .before .before .before .before .before), record { southLong = omega (arith, f .sides, v); sfallLong = omega (arith, f .sides, v); sriseLong = omega (arith, f .sides, v) })
+
+slice-aggregate-mark-row : tie.Need-slice-aggregate-mark-row Inv-loop μ-loop
+slice-aggregate-mark-row c = search needs
+
+slice-aggregate-mark-row-2 : tie.Need-slice-aggregate-mark-row-2 Inv-loop μ-loop
+slice-aggregate-mark-row-2 c = search needs
+
+slice-aggregate-mark-row-3 : tie.Need-slice-aggregate-mark-row-3 Inv-loop μ-loop
+slice-aggregate-mark-row-3 c = search needs
+
+slice-aggregate-mark-row-4 : tie.Need-slice-aggregate-mark-row-4 Inv-loop μ-loop
+slice-aggregate-mark-row-4 c = search needs
+
+slice-aggregate-mark-row-5 : tie.Need-slice-aggregate-mark-row-5 Inv-loop μ-loop
+slice-aggregate-mark-row-5 c = search needs
+
+slice-aggregate-mark-row-6 : tie.Need-slice-aggregate-mark-row-6 Inv-loop μ-loop
+slice-aggregate-mark-row-6 c = search needs
+
+slice-aggregate-mark-row-7 : tie.Need-slice-aggregate-mark-row-7 Inv-loop μ-loop
+slice-aggregate-mark-row-7 c = search needs
+
+slice-aggregate-mark-row-8 : tie.Need-slice-aggregate-mark-row-8 Inv-loop μ-loop
+slice-aggregate-mark-row-8 c = search needs
+
+mark-row-requires : tie.Need-mark-row-requires Inv-loop μ-loop
+mark-row-requires c κs =
+    let v = c .before .before .before .before .before .before .before .before .before .before .before .before .before .before .before .before .before .before .before .loop .inv in
+    let k = c .before .before .before .before .before .before .before .before .before .before .before .south-rows in (
+      record {
+        northLong = omega (arith, v .northLong, v .narrow);
+        nfallLong = omega (arith, v .nfallLong, v .narrow);
+        nriseLong = omega (arith, v .nriseLong, v .narrow);
+        sideLong = omega (arith, c .before .before .before .before .before .before .before .before .before .before .before .before .before .before .before .before .east-row .kept .1 .1 .1 .0, v .sideLong, v .narrow);
+        southLong = omega (arith, k .kept .1 .1 .1 .0, v .southLong, v .narrow);
+        sfallLong = omega (arith, k .kept .1 .1 .1 .1 .0, v .sfallLong, v .narrow);
+        sriseLong = omega (arith, k .kept .1 .1 .1 .1 .1 .0, v .sriseLong, v .narrow);
+      },
+      omega (arith, v .outLong, v .narrow),
     )
 
-same-length : tie.Need-same-length
-same-length c = search needs
+slice-aggregate-copy-row : tie.Need-slice-aggregate-copy-row Inv-loop μ-loop
+slice-aggregate-copy-row c = search needs
 
-returns : tie.Need-returns
+copy-row-requires : tie.Need-copy-row-requires Inv-loop μ-loop
+copy-row-requires c κs =
+    let v = c .before .before .before .before .before .before .before .before .before .before .before .before .before .before .before .before .before .before .before .before .before .before .before .loop .inv in (
+      omega (arith, c .before .before .before .mark-row .kept .1 .1 .1 .1 .1 .1 .1 .0, v .outLong, v .wide, v .narrow),
+      omega (arith, row (c .before .before .before .before .before .before .before .before .before .before .before .before .before .before .before .before .before .before .before .before .before .before), v .marksLong, c .before .before .before .before .before .before .before .before .before .before .before .before .before .before .before .before .before .before .before .before .before .before .before .before .before .pre .1),
+    )
+
+add-r : tie.Need-add-r Inv-loop μ-loop
+add-r c = omega (arith, c .before .before .before .before .before .before .before .before .before .before .before .before .before .before .before .before .before .before .before .before .before .before .before .before .before .loop-test .taken, valid (c .before .before .before .before .before .before .before .before .before .before .before .before .before .before .before .before .before .before .before .before .before .before .before .before .before .before) .sides)
+
+loop-less : tie.Need-loop-less Inv-loop μ-loop
+loop-less c = omega arith
+
+loop-again : tie.Need-loop-again Inv-loop μ-loop
+loop-again c =
+    let v = c .before .before .before .before .before .before .before .before .before .before .before .before .before .before .before .before .before .before .before .before .before .before .before .before .before .before .loop .inv in
+    let a = c .before .before .before .before .before .before .before .before .before .before .before .before .before .before .before .before .before .before .before .before .before .before .before .before .before .before .before .before .args in
+    let f = valid (c .before .before .before .before .before .before .before .before .before .before .before .before .before .before .before .before .before .before .before .before .before .before .before .before .before .before) in
+    let k = a .grid .columns in
+    let b = c .before .before .before .before .before .before .before .before .before .before .before .before .before .before .before .before .before .before .before .before .before .before .before .before .before .before .loop .r in
+    let w = row (c .before .before .before .before .before .before .before .before .before .before .before .before .before .before .before .before .before .before .before .before .before .before .before .before .before) in
+    let lower = c .before .before .before .before .before .before .before .before .before .before .before .before .before .before .before .before .before .before .south-rows in
+    let side = side-told f w _ _ (omega (arith, f .sides, v .sideLong)) (v .west) (v .east) (c .before .before .before .before .before .before .before .before .before .before .before .before .before .before .before .before .before .before .before .before .before .before .before .east-row .ensures) in
+    let next : (b + 1) * k ≡ b * k + k = omega (arith, add-mul b 1 k, one-mul k) in
+    record {
+      inside = omega (arith, c .before .before .before .before .before .before .before .before .before .before .before .before .before .before .before .before .before .before .before .before .before .before .before .before .before .loop-test .taken);
+      wide = v .wide;
+      narrow = v .narrow;
+      marksLong = c .before .before .copy-row .kept .1 .1 .0 ∙ v .marksLong;
+      northLong = lower .kept .1 .1 .1 .0 ∙ v .southLong;
+      nfallLong = lower .kept .1 .1 .1 .1 .0 ∙ v .sfallLong;
+      nriseLong = lower .kept .1 .1 .1 .1 .1 .0 ∙ v .sriseLong;
+      sideLong = c .before .before .before .before .before .before .before .before .before .before .before .before .before .before .before .before .before .before .before .before .before .before .before .east-row .kept .1 .1 .1 .0 ∙ v .sideLong;
+      southLong = lower .kept .1 .1 .1 .0 ∙ v .southLong;
+      sfallLong = lower .kept .1 .1 .1 .1 .0 ∙ v .sfallLong;
+      sriseLong = lower .kept .1 .1 .1 .1 .1 .0 ∙ v .sriseLong;
+      outLong = c .before .before .before .before .before .before .mark-row .kept .1 .1 .1 .1 .1 .1 .1 .0 ∙ v .outLong;
+      above = rw next (north-next f w _ _ _ (lower .ensures));
+      west = side .west;
+      east = side .east;
+      done =
+          stores-join _ 0 (b * k) (b * k) k ((b + 1) * k) (a .marks .now) _ _ (v .done)
+          (row-marked f w (v .above) side (lower .ensures) _ _ _ _ _ (v .wide) (omega (arith, v .outLong, v .narrow)) (c .before .before .before .before .before .before .mark-row .ensures) (c .before .before .copy-row .ensures))
+          (omega arith) next;
+    }
+
+same-length : tie.Need-same-length Inv-loop μ-loop
+same-length c = c .before .loop .inv .marksLong
+
+returns : tie.Need-returns Inv-loop μ-loop
 unfolding marksOf
 returns c =
-    let g = c .before .before in
-    let m = g .before .before .before .before in
-    let e = m .before .before .before .before in
-    let s = e .before .before .before in
-    let a = s .args in
-    let n = a .rows * a .columns in
-    let k = a .columns in
-    let f = markAt (plot (a .rows) k (a .heights .now)) in
-    let w = fits-two (s .pre .0) in
-    stores-join f 0 (n - k) (n - k) k n (a .marks .now) _ _
-    (stores-join f 0 k k (n - k - k) (n - k) (a .marks .now) _ _ (e .mark-each .ensures) (m .mark-rows .ensures) (omega arith) (omega arith))
-    (g .mark-each2 .ensures)
-    (omega arith)
-    (omega arith)
-    ∙ stores-all f n (a .marks .now) 0 (s .pre .1)
+    let l = c .before in
+    let a = c .before .before .before .args in
+    let e : l .loop .r ≡ a .grid .rows = omega (arith, c .loop-test .left, l .loop .inv .inside) in
+    l .loop .inv .done ∙ rw e (stores-all _ (a .grid .rows * a .grid .columns) (a .marks .now) 0 (c .before .before .before .pre .1))
 
 pub mark-plot-spec : {M : Type 1} → statement M
-mark-plot-spec =
-    tie.close
-    (tie.spec
-    mark-each-requires
-    mark-rows-requires
-    mul-mark-each
-    sub-mark-each
-    mark-each-requires-2
-    same-length
-    returns)
+mark-plot-spec = tie.close (tie.spec Inv-loop μ-loop array-write-side add-width mul-width loop-holds mul-base slice-aggregate-east-row east-row-requires slice-aggregate-south-rows slice-aggregate-south-rows-2 slice-aggregate-south-rows-3 south-rows-requires slice-aggregate-mark-row slice-aggregate-mark-row-2 slice-aggregate-mark-row-3 slice-aggregate-mark-row-4 slice-aggregate-mark-row-5 slice-aggregate-mark-row-6 slice-aggregate-mark-row-7 slice-aggregate-mark-row-8 mark-row-requires slice-aggregate-copy-row copy-row-requires add-r loop-less loop-again same-length returns)

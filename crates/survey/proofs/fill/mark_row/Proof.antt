@@ -1,54 +1,115 @@
--- `survey::fill::mark_row` meets its contract: three rows of stores, one after the other.
-use Prim.Native.Nat.{_+_, _-_}
+-- `fill::mark_row` meets its contract. The loop's invariant: c marks were stored.
+use Prim.Native.Nat.{_+_, _-_, _≤_}
 use native.Mathlib.Omega.{arith}
-use mathlib.Core.Path.{refl}
+use mathlib.Core.Path.{_≡_, refl, _∙_}
+use lib.ListN.{length, length-set}
 use borrow.Author.Needs.{needs}
-use Rattle.surface.specs.Plot.{plot}
-use Rattle.surface.specs.Marks.{markAt}
-use Rattle.plot.proofs.Stores.{stores-join}
+use Rattle.surface.specs.Lists.{stores}
+use Rattle.surface.proofs.General.Stores.{store-next}
+use Rattle.post.specs.Flags.{markFrom}
+use Rattle.survey.specs.Rows.{roundOf}
 use Rattle.survey.proofs.fill.mark_row.Statement.{statement}
 use Rattle.survey.proofs.fill.mark_row.Tie as tie
 
-mark-each-requires : tie.Need-mark-each-requires
-mark-each-requires c κs = search needs
+abbrev Inv-loop : tie.InvT-loop
+Inv-loop north nfall nrise side south sfall srise out₀ width c₀ out c =
+    (c ≤ width)
+    × (length out ≡ length out₀)
+    × (out ≡ stores (λ k. markFrom (roundOf north nfall nrise side south sfall srise k)) 0 c out₀)
 
-mark-inner-requires : tie.Need-mark-inner-requires
-mark-inner-requires c κs = search needs
+abbrev μ-loop : tie.MeasureT-loop
+μ-loop north nfall nrise side south sfall srise out₀ width c₀ out c = width - c
 
-sub-mark-each : tie.Need-sub-mark-each
-sub-mark-each c = search needs
+loop-holds : tie.Need-loop-holds Inv-loop μ-loop
+unfolding stores
+loop-holds c = (omega arith, refl, refl)
 
-add-mark-each : tie.Need-add-mark-each
-add-mark-each c = search needs
+shared-slice-read-n : tie.Need-shared-slice-read-n Inv-loop μ-loop
+shared-slice-read-n c = omega arith
 
-mark-each-requires-2 : tie.Need-mark-each-requires-2
-mark-each-requires-2 c κs = search needs
+add-ne : tie.Need-add-ne Inv-loop μ-loop
+add-ne c = omega arith
 
-same-length : tie.Need-same-length
-same-length c = search needs
+shared-slice-read-ne : tie.Need-shared-slice-read-ne Inv-loop μ-loop
+shared-slice-read-ne c = omega arith
 
-returns : tie.Need-returns
+add-e : tie.Need-add-e Inv-loop μ-loop
+add-e c = omega arith
+
+shared-slice-read-e : tie.Need-shared-slice-read-e Inv-loop μ-loop
+shared-slice-read-e c = omega arith
+
+add-se : tie.Need-add-se Inv-loop μ-loop
+add-se c = omega arith
+
+shared-slice-read-se : tie.Need-shared-slice-read-se Inv-loop μ-loop
+shared-slice-read-se c = omega arith
+
+shared-slice-read-s : tie.Need-shared-slice-read-s Inv-loop μ-loop
+shared-slice-read-s c = omega arith
+
+shared-slice-read-sw : tie.Need-shared-slice-read-sw Inv-loop μ-loop
+shared-slice-read-sw c = omega arith
+
+shared-slice-read-w : tie.Need-shared-slice-read-w Inv-loop μ-loop
+shared-slice-read-w c = omega arith
+
+shared-slice-read-nw : tie.Need-shared-slice-read-nw Inv-loop μ-loop
+shared-slice-read-nw c = omega arith
+
+mark-of-requires : tie.Need-mark-of-requires Inv-loop μ-loop
+mark-of-requires c κs = search needs
+
+slice-write-out : tie.Need-slice-write-out Inv-loop μ-loop
+slice-write-out c = omega arith
+
+add-c : tie.Need-add-c Inv-loop μ-loop
+add-c c = omega arith
+
+loop-less : tie.Need-loop-less Inv-loop μ-loop
+loop-less c = omega arith
+
+loop-again : tie.Need-loop-again Inv-loop μ-loop
+loop-again c =
+    let h = c .before .before .before .before .before .before .before .before .before .before in
+    let l = h .loop in
+    let a = h .before .before .before .before .before .before .before .before .before .args in (
+      omega arith,
+      length-set (l .out) _ _ ∙ l .inv .1,
+      store-next _ 0 (l .c) (l .c + 1) (l .out) (a .out .now) (l .c) _ (l .inv .2) (omega arith) refl (c .mark-of .ensures),
+    )
+
+same-length : tie.Need-same-length Inv-loop μ-loop
+same-length c = c .before .loop .inv .1
+
+returns : tie.Need-returns Inv-loop μ-loop
 returns c =
-    let m = c .before .before in
-    let i = m .before .before .before .before in
-    let e = i .before .before .before .before in
-    let a = e .before .before .before .before .before .args in
-    let w = e .before .before .before .before .before .pre .0 .fits .columnsLow in
-    let f = markAt (plot (a .rows) (a .columns) (a .heights .now)) in
-    stores-join f (a .base) (1 + (a .columns - 2)) (a .base + (a .columns - 1)) 1 (a .columns) (a .marks .now) _ _
-    (stores-join f (a .base) 1 (a .base + 1) (a .columns - 2) (1 + (a .columns - 2)) (a .marks .now) _ _ (e .mark-each .ensures) (i .mark-inner .ensures) refl refl)
-    (m .mark-each2 .ensures)
-    (omega (arith, w))
-    (omega (arith, w))
+    let l = c .before .loop in
+    let e : l .c ≡ c .before .before .before .before .before .before .before .before .before .before .args .width = omega arith in
+    rw e at (l .inv .2)
 
 pub mark-row-spec : {M : Type 1} → statement M
 mark-row-spec =
     tie.close
     (tie.spec
-    mark-each-requires
-    mark-inner-requires
-    sub-mark-each
-    add-mark-each
-    mark-each-requires-2
+    Inv-loop
+    μ-loop
+    loop-holds
+    shared-slice-read-n
+    add-ne
+    shared-slice-read-ne
+    add-e
+    shared-slice-read-e
+    add-se
+    shared-slice-read-se
+    shared-slice-read-s
+    shared-slice-read-sw
+    shared-slice-read-w
+    shared-slice-read-nw
+    mark-of-requires
+    slice-write-out
+    add-c
+    loop-less
+    loop-again
     same-length
     returns)

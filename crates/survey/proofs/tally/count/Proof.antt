@@ -1,4 +1,4 @@
--- `survey::tally::count` meets its contract. The loop's invariant: each count is what was passed, and what is left makes up the rest.
+-- `tally::count` meets its contract. The loop's invariant: each count is what was passed, and what is left makes up the rest.
 use Prim.Native.Nat.{_+_, _-_, _*_, _≤_}
 use native.Mathlib.Omega.{arith}
 use mathlib.Core.Path.{_≡_}
@@ -7,7 +7,7 @@ use lib.Dec.{eqb}
 use lib.ListN.{length, drop}
 use Rattle.surface.specs.Lists.{count, total}
 use Rattle.surface.specs.Marks.{multiplicity, peaks, pits, saddles}
-use Rattle.surface.proofs.Scans.{count-pass, count-end, total-pass, total-end}
+use Rattle.survey.proofs.Scans.{count-end, total-end}
 use Rattle.survey.proofs.tally.count.Statement.{statement}
 use Rattle.survey.proofs.tally.count.Tie as tie
 
@@ -27,45 +27,41 @@ abbrev μ-loop : tie.MeasureT-loop
 loop-holds : tie.Need-loop-holds Inv-loop μ-loop
 loop-holds c = omega arith
 
-shared-slice-read-m : tie.Need-shared-slice-read-m Inv-loop μ-loop
-shared-slice-read-m c = omega arith
+part-end-requires : tie.Need-part-end-requires Inv-loop μ-loop
+part-end-requires c κs = omega arith
 
-is-requires : tie.Need-is-requires Inv-loop μ-loop
-is-requires c κs = omega arith
+count-part-requires : tie.Need-count-part-requires Inv-loop μ-loop
+count-part-requires c κs = omega arith
+
+cast-peaks : tie.Need-cast-peaks Inv-loop μ-loop
+cast-peaks c = omega arith
 
 add-peaks : tie.Need-add-peaks Inv-loop μ-loop
 add-peaks c = omega arith
 
-is-requires-2 : tie.Need-is-requires-2 Inv-loop μ-loop
-is-requires-2 c κs = omega arith
+count-part-requires-2 : tie.Need-count-part-requires-2 Inv-loop μ-loop
+count-part-requires-2 c κs = omega arith
+
+cast-pits : tie.Need-cast-pits Inv-loop μ-loop
+cast-pits c = omega arith
 
 add-pits : tie.Need-add-pits Inv-loop μ-loop
 add-pits c = omega arith
 
-times-requires : tie.Need-times-requires Inv-loop μ-loop
-times-requires c κs = omega arith
+total-part-requires : tie.Need-total-part-requires Inv-loop μ-loop
+total-part-requires c κs = omega arith
+
+cast-saddles : tie.Need-cast-saddles Inv-loop μ-loop
+cast-saddles c = omega arith
 
 add-saddles : tie.Need-add-saddles Inv-loop μ-loop
 add-saddles c = omega arith
-
-add-i : tie.Need-add-i Inv-loop μ-loop
-add-i c = omega arith
 
 loop-less : tie.Need-loop-less Inv-loop μ-loop
 loop-less c = omega arith
 
 loop-again : tie.Need-loop-again Inv-loop μ-loop
-loop-again c =
-    let i = c .before .before .before .before in
-    let l = i .before in
-    let ms = l .before .before .args .marks .now in
-    let k = l .loop .i in
-    omega (
-      arith,
-      count-pass ms k (λ m. eqb m 1) 0 (i .loop-test .taken),
-      count-pass ms k (λ m. eqb m 2) 0 (i .loop-test .taken),
-      total-pass ms k multiplicity 0 (i .loop-test .taken),
-    )
+loop-again c = omega arith
 
 returns : tie.Need-returns Inv-loop μ-loop
 unfolding peaks pits saddles
@@ -87,14 +83,16 @@ count-spec =
     Inv-loop
     μ-loop
     loop-holds
-    shared-slice-read-m
-    is-requires
+    part-end-requires
+    count-part-requires
+    cast-peaks
     add-peaks
-    is-requires-2
+    count-part-requires-2
+    cast-pits
     add-pits
-    times-requires
+    total-part-requires
+    cast-saddles
     add-saddles
-    add-i
     loop-less
     loop-again
     returns)

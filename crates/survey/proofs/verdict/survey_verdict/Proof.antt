@@ -1,44 +1,56 @@
--- `survey::verdict::survey_verdict` meets its contract, return by return.
-use mathlib.Core.Path.{sym, _∙_, ap}
-use native.Mathlib.Omega.{arith}
-use borrow.Author.Needs.{needs}
-use borrow.Author.Tests.{eq-eqb, ne-eqb}
+-- Rows 1 and 2 lead, then row 3, then row 4.
+use mathlib.Core.Path.{_≡_, sym, _∙_, ap}
 use mathlib.Core.Bool.{not}
-use Rattle.surface.specs.Refusals.{surveyVerdict}
-use Rattle.surface.specs.Calls.{answer}
-use Rattle.surface.proofs.Verdicts.{row-holds, row-passed}
-use Rattle.plot.proofs.Round.{few}
+use mathlib.Core.List.{[], _∷_}
+use native.Mathlib.Omega.{arith}
+use borrow.Author.Tests.{eq-eqb, ne-eqb}
+use Rattle.surface.specs.Plot.{Plot, plot, posts, Sides}
+use Rattle.surface.specs.Refusals.{verdict, row1, row2, surveyVerdict}
+use Rattle.surface.specs.declared.Answer.{Answer}
+use Rattle.surface.proofs.OfCalls.Verdicts.{leads-refused, leads-passed, row-holds, row-passed}
+use Rattle.surface.proofs.OfCalls.Accepted.{plot-sized}
+use lib.ListN.{length}
+use borrow.Author.Needs.{needs}
 use Rattle.survey.proofs.verdict.survey_verdict.Statement.{statement}
 use Rattle.survey.proofs.verdict.survey_verdict.Tie as tie
 
-sized-requires : tie.Need-sized-requires
-sized-requires c κs = search needs
+code : {a b : Answer} → a ≡ b → a .code ≡ b .code
+code e = ap (λ (x : Answer). x .code) e
+
+abbrev asked : tie.Else1 → Plot
+asked c = let a = c .before .before .before .before .args in plot (a .rows) (a .columns) (a .heights .now)
+
+-- rows 1 and 2 pass
+sized : (c : tie.Else1) → verdict (row1 (asked c .rows) (asked c .columns) ∷ row2 (asked c) ∷ []) .code ≡ 0
+sized c = sym (code (c .before .before .plot-verdict .ensures)) ∙ c .if1 .left
+
+lent : (c : tie.Else1) → Sides (asked c .rows) (asked c .columns) × (length (asked c .heights) ≡ posts (asked c))
+lent c = plot-sized (asked c) (sized c)
+
+plot-verdict-requires : tie.Need-plot-verdict-requires
+plot-verdict-requires c κs = search needs
 
 returns : tie.Need-returns
 unfolding surveyVerdict
-returns c = sym (ap answer (c .before .sized .ensures .refuses (c .if1 .taken) _))
+returns c =
+    let e = c .before .before .plot-verdict .ensures in
+    e ∙ sym (leads-refused (_ ∷ _ ∷ []) _ tt (λ z. c .if1 .taken (code e ∙ z)))
 
 returns-2 : tie.Need-returns-2
 unfolding surveyVerdict
 returns-2 c =
-    let s = c .before .before .sized .ensures in
-    let e = c .before .if1 .left in
-    let f = s .fits e in
-    sym (ap answer (s .passes e _ ∙ row-holds _ _ (ap not (ne-eqb _ _ (λ h. c .if2 .taken (h ∙ sym (f .size)))))))
+    let e = c .before in
+    sym (leads-passed (_ ∷ _ ∷ []) _ tt (sized e) ∙ row-holds _ _ (ap not (ne-eqb _ _ (λ h. c .if2 .taken (h ∙ sym (lent e .1))))))
 
-ranged-requires : tie.Need-ranged-requires
-ranged-requires c κs =
-    let f = c .before .before .sized .ensures .fits (c .before .if1 .left) in
-    omega (arith, f .size, few f)
+heights-verdict-requires : tie.Need-heights-verdict-requires
+heights-verdict-requires c κs = let k = lent (c .before) in omega (arith, k .0, k .1)
 
 returns-3 : tie.Need-returns-3
 unfolding surveyVerdict
 returns-3 c =
-    let s = c .before .before .before .sized .ensures in
-    let e = c .before .before .if1 .left in
-    let f = s .fits e in
-    c .ranged .ensures ∙ sym (ap answer (s .passes e _ ∙ row-passed _ _ (ap not (eq-eqb _ _ (c .before .if2 .left ∙ f .size)))))
+    let e = c .before .before in
+    c .heights-verdict .ensures
+    ∙ sym (leads-passed (_ ∷ _ ∷ []) _ tt (sized e) ∙ row-passed _ _ (ap not (eq-eqb _ _ (c .before .if2 .left ∙ lent e .1))))
 
 pub survey-verdict-spec : {M : Type 1} → statement M
-survey-verdict-spec =
-    tie.close (tie.spec sized-requires returns returns-2 ranged-requires returns-3)
+survey-verdict-spec = tie.close (tie.spec plot-verdict-requires returns returns-2 heights-verdict-requires returns-3)

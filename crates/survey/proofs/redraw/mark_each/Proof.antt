@@ -1,33 +1,33 @@
--- `survey::fill::mark_each` meets its contract. The loop's invariant: i stores were made.
+-- The loop's invariant: i stores were made.
 use Prim.Native.Nat.{_+_, _-_, _≤_}
 use native.Mathlib.Omega.{arith}
 use mathlib.Core.Path.{_≡_, refl, _∙_}
 use lib.ListN.{length, length-set}
-use Rattle.surface.specs.Plot.{plot}
+use Rattle.surface.specs.Lists.{stores}
+use Rattle.surface.specs.Plot.{plotOf}
 use Rattle.surface.specs.Marks.{markAt}
-use Rattle.plot.specs.Stores.{stores}
-use Rattle.plot.proofs.Stores.{store-next}
-use Rattle.survey.proofs.fill.mark_each.Statement.{statement}
-use Rattle.survey.proofs.fill.mark_each.Tie as tie
+use Rattle.surface.proofs.General.Stores.{store-next}
+use Rattle.survey.proofs.redraw.mark_each.Statement.{statement}
+use Rattle.survey.proofs.redraw.mark_each.Tie as tie
 
 abbrev Inv-loop : tie.InvT-loop
-Inv-loop heights rows columns from n marks₀ i₀ marks i = (i ≤ n) × (length marks ≡ length marks₀) × (marks ≡ stores (markAt (plot rows columns heights)) from i marks₀)
+Inv-loop heights grid from n marks₀ i₀ marks i = (i ≤ n) × (length marks ≡ length marks₀) × (marks ≡ stores (markAt (plotOf grid heights)) from i marks₀)
 
 abbrev μ-loop : tie.MeasureT-loop
-μ-loop heights rows columns from n marks₀ i₀ marks i = n - i
+μ-loop heights grid from n marks₀ i₀ marks i = n - i
 
 loop-holds : tie.Need-loop-holds Inv-loop μ-loop
 unfolding stores
 loop-holds c = (omega arith, refl, refl)
 
 add-mark-at : tie.Need-add-mark-at Inv-loop μ-loop
-add-mark-at c = omega arith
+add-mark-at c = omega (arith, c .before .before .before .pre .0 .sides)
 
 mark-at-requires : tie.Need-mark-at-requires Inv-loop μ-loop
-mark-at-requires c κs = omega arith
+mark-at-requires c κs = record { valid = c .before .before .before .pre .0; post = omega arith }
 
 add-marks : tie.Need-add-marks Inv-loop μ-loop
-add-marks c = omega arith
+add-marks c = omega (arith, c .before .before .before .before .pre .0 .sides)
 
 slice-write-marks : tie.Need-slice-write-marks Inv-loop μ-loop
 slice-write-marks c = omega arith
@@ -57,18 +57,4 @@ returns c =
     rw e at (l .inv .2)
 
 pub mark-each-spec : {M : Type 1} → statement M
-mark-each-spec =
-    tie.close
-    (tie.spec
-    Inv-loop
-    μ-loop
-    loop-holds
-    add-mark-at
-    mark-at-requires
-    add-marks
-    slice-write-marks
-    add-i
-    loop-less
-    loop-again
-    same-length
-    returns)
+mark-each-spec = tie.close (tie.spec Inv-loop μ-loop loop-holds add-mark-at mark-at-requires add-marks slice-write-marks add-i loop-less loop-again same-length returns)

@@ -1,7 +1,7 @@
 -- The mark less 2. (Written out, and not left to a search, so that a wrong multiplicity is refused here.)
 use native.Mathlib.Omega.{arith}
-use Rattle.survey.proofs.tally.times.Statement.{statement}
-use Rattle.survey.proofs.tally.times.Tie as tie
+use Rattle.survey.proofs.tally.multiplicity_of.Statement.{statement}
+use Rattle.survey.proofs.tally.multiplicity_of.Tie as tie
 
 returns : tie.Need-returns
 returns c = omega arith
@@ -12,5 +12,5 @@ cast-result c = omega arith
 returns-2 : tie.Need-returns-2
 returns-2 c = omega arith
 
-pub times-spec : {M : Type 1} → statement M
-times-spec = tie.close (tie.spec returns cast-result returns-2)
+pub multiplicity-of-spec : {M : Type 1} → statement M
+multiplicity-of-spec = tie.close (tie.spec returns cast-result returns-2)

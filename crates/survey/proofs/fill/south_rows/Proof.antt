@@ -1,0 +1,68 @@
+-- Three rows of comparisons, or the virtual pit.
+use Prim.Native.Nat.{_+_, _*_, _≤_, _<_}
+use native.Mathlib.Omega.{arith}
+use Rattle.survey.proofs.Told.{row-below, south-told, south-pit}
+use borrow.Author.Needs.{needs}
+use Rattle.survey.proofs.fill.south_rows.Statement.{statement}
+use Rattle.survey.proofs.fill.south_rows.Tie as tie
+
+-- where there is a row below, it is whole
+below : (c : tie.Then1)
+    → let a = c .before .before .before .before .args in
+    let n = a .grid .rows * a .grid .columns in
+    (a .base + a .grid .columns + a .grid .columns ≤ n) × (a .base + a .grid .columns < n)
+below c =
+    let start = c .before .before .before .before in
+    let a = start .args in
+    let h : a .base + a .grid .columns < a .grid .rows * a .grid .columns = omega (arith, start .pre .0 .size, c .if1 .taken) in
+    (row-below (start .pre .0) (start .pre .1) h, h)
+
+add-next : tie.Need-add-next
+add-next c = omega (arith, c .before .before .before .pre .0 .sides, c .before .before .before .pre .1)
+
+later-row-requires : tie.Need-later-row-requires
+later-row-requires c κs = let start = c .before .before .before .before .before in let b = below (c .before) in let s = start .pre .0 .sides in (start .pre .0, omega (arith, s), omega (arith, b, s), omega (arith, start .pre .2, s))
+
+add-later-row : tie.Need-add-later-row
+add-later-row c = omega (arith, c .before .before .before .before .before .before .before .before .pre .0 .sides, c .before .before .before .before .before .before .before .before .pre .1)
+
+sub-later-row : tie.Need-sub-later-row
+sub-later-row c = omega (arith, c .before .before .before .before .before .before .before .before .before .pre .0 .sides)
+
+later-row-requires-2 : tie.Need-later-row-requires-2
+later-row-requires-2 c κs = let start = c .before .before .before .before .before .before .before .before .before in let b = below (c .before .before .before .before .before) in let s = start .pre .0 .sides in (start .pre .0, omega (arith, s), omega (arith, b, s), omega (arith, start .pre .2, s))
+
+add-later-row-2 : tie.Need-add-later-row-2
+add-later-row-2 c = omega (arith, c .before .before .before .before .before .before .before .before .before .before .before .before .pre .0 .sides, c .before .before .before .before .before .before .before .before .before .before .before .before .pre .1)
+
+sub-later-row-2 : tie.Need-sub-later-row-2
+sub-later-row-2 c = omega (arith, c .before .before .before .before .before .before .before .before .before .before .before .before .before .pre .0 .sides)
+
+later-row-requires-3 : tie.Need-later-row-requires-3
+later-row-requires-3 c κs = let start = c .before .before .before .before .before .before .before .before .before .before .before .before .before in let b = below (c .before .before .before .before .before .before .before .before .before) in let s = start .pre .0 .sides in (start .pre .0, omega (arith, s), omega (arith, b, s), omega (arith, start .pre .2, s))
+
+same-length : tie.Need-same-length
+same-length c = search needs
+
+same-length-2 : tie.Need-same-length-2
+same-length-2 c = search needs
+
+same-length-3 : tie.Need-same-length-3
+same-length-3 c = search needs
+
+returns : tie.Need-returns
+returns c =
+    let pre = c .before .before .before .before .before .before .before .before .before .before .before .before .before .before .before .before .pre in
+    south-told (pre .0) (pre .1) _ _ _ _ _ _ (below (c .before .before .before .before .before .before .before .before .before .before .before .before) .1) (pre .2 .southLong) (pre .2 .sfallLong) (pre .2 .sriseLong) (c .before .before .before .before .before .before .before .before .before .before .later-row .ensures) (c .before .before .before .before .before .before .later-row2 .ensures) (c .before .before .later-row3 .ensures)
+
+fill-row-requires : tie.Need-fill-row-requires
+fill-row-requires c κs = c .before .before .before .before .before .pre .2 .southLong
+
+same-length-4 : tie.Need-same-length-4
+same-length-4 c = search needs
+
+returns-2 : tie.Need-returns-2
+returns-2 c = let pre = c .before .before .before .before .before .before .before .before .pre in south-pit (pre .0) (pre .1) _ _ _ _ (omega (arith, pre .0 .size, c .before .before .before .before .if1 .left)) (pre .2 .southLong) (c .before .before .fill-row .ensures)
+
+pub south-rows-spec : {M : Type 1} → statement M
+south-rows-spec = tie.close (tie.spec add-next later-row-requires add-later-row sub-later-row later-row-requires-2 add-later-row-2 sub-later-row-2 later-row-requires-3 same-length same-length-2 same-length-3 returns fill-row-requires same-length-4 returns-2)
