@@ -1,57 +1,62 @@
--- `survey_file::writing::write_verdict` meets its contract, return by return.
-use Prim.Native.Nat.{_+_, _*_}
+-- `survey_file::writing::write_verdict` meets its contract: rows 1 and 2 lead, then row 3, then row 4.
 use mathlib.Core.Path.{_≡_, sym, _∙_, ap}
 use mathlib.Core.Bool.{not}
+use mathlib.Core.List.{[], _∷_}
 use native.Mathlib.Omega.{arith}
 use borrow.Author.Needs.{needs}
 use borrow.Author.Tests.{eq-eqb, ne-eqb}
 use lib.ListN.{length}
-use Rattle.surface.specs.Plot.{plot}
+use Rattle.surface.specs.Plot.{Plot, plot, posts, isHeight, Sides}
 use Rattle.surface.specs.SurveyFile.{fileSize}
-use Rattle.surface.specs.Refusals.{writeVerdict}
-use Rattle.surface.specs.Calls.{answer}
-use Rattle.surface.proofs.Verdicts.{row-holds, row-passed}
-use Rattle.plot.specs.Fits.{Fits}
-use Rattle.plot.proofs.Round.{few}
+use Rattle.surface.specs.Refusals.{verdict, row1, row2, row3, row4, writeVerdict}
+use Rattle.surface.specs.declared.Answer.{Answer}
+use Rattle.surface.proofs.OfCalls.Verdicts.{row-holds, row-passed, leads-refused, leads-passed}
+use Rattle.surface.proofs.OfCalls.Accepted.{plot-sized}
+use Rattle.survey_file.specs.Layout.{heightAt}
 use Rattle.survey_file.proofs.writing.write_verdict.Statement.{statement}
 use Rattle.survey_file.proofs.writing.write_verdict.Tie as tie
 
-fits : (c : tie.Else1) → let a = c .before .before .before .args in Fits (plot (a .rows) (a .columns) (a .heights .now))
-fits c = c .before .sized .ensures .fits (c .if1 .left)
+abbrev asked : tie.After-plot-verdict → Plot
+asked c = let a = c .before .before .args in plot (a .rows) (a .columns) (a .heights .now)
 
--- the code's size of a file is the count rule's
-size : (c : tie.Else1) → let a = c .before .before .before .args in 7 + 4 * length (a .heights .now) ≡ fileSize (a .rows) (a .columns)
-size c = omega (arith, fits c .size)
+code : (c : tie.After-plot-verdict) → c .plot-verdict .result .code ≡ verdict (row1 (asked c .rows) (asked c .columns) ∷ row2 (asked c) ∷ []) .code
+code c = ap (λ (a : Answer). a .code) (c .plot-verdict .ensures)
 
-sized-requires : tie.Need-sized-requires
-sized-requires c κs = search needs
+-- rows 1 and 2 pass
+module _ (c : tie.Else1) where
+  abbrev pl : Plot
+  pl = asked (c .before .before)
+
+  sized : Sides pl.rows pl.columns × (length pl.heights ≡ posts pl)
+  sized = plot-sized pl (sym (code (c .before .before)) ∙ c .if1 .left)
+
+  size : heightAt (length pl.heights) ≡ fileSize pl.rows pl.columns
+  size = omega (arith, sized .1)
+
+  passed : let file = c .before .before .before .before .args .file .now in writeVerdict pl file ≡ verdict (row3 file (fileSize pl.rows pl.columns) ∷ row4 isHeight pl.heights ∷ [])
+  unfolding writeVerdict
+  passed = leads-passed (row1 pl.rows pl.columns ∷ row2 pl ∷ []) _ tt (sym (code (c .before .before)) ∙ c .if1 .left)
 
 returns : tie.Need-returns
 unfolding writeVerdict
-returns c = sym (ap answer (c .before .sized .ensures .refuses (c .if1 .taken) _))
-
-mul-if2 : tie.Need-mul-if2
-mul-if2 c = omega (arith, fits c .size, few (fits c))
-
-add-if2 : tie.Need-add-if2
-add-if2 c = omega (arith, fits c .size, few (fits c))
+returns c = let v = c .before .before in v .plot-verdict .ensures ∙ sym (leads-refused (_ ∷ _ ∷ []) _ tt (λ z. c .if1 .taken (code v ∙ z)))
 
 returns-2 : tie.Need-returns-2
-unfolding writeVerdict
-returns-2 c =
-    let e = c .before in
-    sym (ap answer (e .before .sized .ensures .passes (e .if1 .left) _ ∙ row-holds _ _ (ap not (ne-eqb _ _ (λ h. c .if2 .taken (h ∙ sym (size e)))))))
-
-ranged-requires : tie.Need-ranged-requires
-ranged-requires c κs = let e = c .before in omega (arith, fits e .size, few (fits e))
+returns-2 c = sym (passed (c .before) ∙ row-holds _ _ (ap not (ne-eqb _ _ (λ e. c .if2 .taken (e ∙ sym (size (c .before)))))))
 
 returns-3 : tie.Need-returns-3
-unfolding writeVerdict
 returns-3 c =
-    let e = c .before .before in
-    c .ranged .ensures
-    ∙ sym (ap answer (e .before .sized .ensures .passes (e .if1 .left) _ ∙ row-passed _ _ (ap not (eq-eqb _ _ (c .before .if2 .left ∙ size e)))))
+    let k = c .before in
+    c .heights-verdict .ensures ∙ sym (passed (k .before) ∙ row-passed _ _ (ap not (eq-eqb _ _ (k .if2 .left ∙ size (k .before)))))
 
 pub write-verdict-spec : {M : Type 1} → statement M
 write-verdict-spec =
-    tie.close (tie.spec sized-requires returns mul-if2 add-if2 returns-2 ranged-requires returns-3)
+    tie.close
+    (tie.spec
+    (search needs)
+    returns
+    (λ c. omega (arith, sized c))
+    (λ c. omega (arith, sized c))
+    returns-2
+    (λ c κs. omega (arith, sized (c .before)))
+    returns-3)
