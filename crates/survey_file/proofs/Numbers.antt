@@ -1,7 +1,7 @@
 -- Signed 32-bit numbers: their bits, and rounding. Each law is by the two signs; in each case the rest is arithmetic of naturals.
 use Prim.Native.Nat.{ℕ, zero, suc, _+_, _-_, _/_, _≤_, _<_}
 use native.Mathlib.Omega.{arith}
-use mathlib.Core.Path.{_≡_, refl, sym, ap}
+use mathlib.Core.Path.{_≡_, refl, ap}
 use mathlib.Core.Bool.{Bool, true, false, cond, true≢false}
 use borrow.Author.Tests.{ltb-true, ltb-false, le-ltb, not-true}
 use lib.Dec.{T, ltb}

@@ -1,11 +1,11 @@
 -- Runs of stores into a file: one after the other, the header and then the heights.
-use Prim.Native.Nat.{ℕ, suc, _+_, _*_, _%_, _≤_, _<_}
+use Prim.Native.Nat.{ℕ, suc, _+_, _*_, _%_, _<_}
 use native.Mathlib.Nat.{add-zero}
 use native.Mathlib.Omega.{arith}
-use mathlib.Core.Path.{_≡_, refl, sym, _∙_, ap}
+use mathlib.Core.Path.{_≡_, _∙_}
 use mathlib.Core.List.{List, [], _∷_, _++_, append-nil}
 use lib.IntN.{ℤ, pos, _*ℤ_}
-use lib.ListN.{length, getD, take, drop, set}
+use lib.ListN.{length, getD, take, set}
 use lib.Seq.{sets, sets-eq, drop-length, length-take-le}
 use Rattle.surface.specs.Plot.{Plot}
 use Rattle.surface.specs.SurveyFile.{unsigned, bytesOf, filedHeights, fileOf}

@@ -20,9 +20,9 @@ ghost use Rattle.surface.specs.Calls.{readAnswer, readHeights, writeAnswer, wri
 ghost use Rattle.survey_file.specs.Layout.{plotPosts};
 
 // The first byte of a file, and how many bytes stand before its heights.
-pub(crate) const VERSION: u8 = 1;
+const VERSION: u8 = 1;
 
-pub(crate) const HEADER: usize = 7;
+const HEADER: usize = 7;
 
 // How many posts the file's plot has, 0 where it can have none.
 pub fn posts_in(file: &[u8]) -> usize

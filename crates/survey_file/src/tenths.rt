@@ -14,11 +14,11 @@ ghost use Rattle.surface.specs.SurveyFile.{wordAt, signed, unsigned, isTenths, 
 ghost use Rattle.survey_file.specs.Layout.{heightAt};
 
 // The lowest and the highest filed height.
-const LOWEST: i32 = -10000000;
+const LOWEST_FILED: i32 = -10000000;
 
-const HIGHEST: i32 = 10000000;
+const HIGHEST_FILED: i32 = 10000000;
 
-// Tenths to whole millimetres, a half going away from zero (and `/` toward zero).
+// Tenths to whole millimetres, a half going away from zero: `/` goes toward zero.
 pub(crate) fn round(t: i32) -> i32
     requires { ⌜ isTenths t ≡ true ⌝ }
     ensures { λ r. ⌜ r ≡ rounded t ⌝ }
@@ -33,7 +33,7 @@ pub(crate) fn round(t: i32) -> i32
 pub(crate) fn is_tenths(t: i32) -> bool
     ensures { λ r. ⌜ r ≡ isTenths t ⌝ }
 {
-    !(t < LOWEST) & !(HIGHEST < t)
+    !(t < LOWEST_FILED) & !(HIGHEST_FILED < t)
 }
 
 // The filed height of a post.

@@ -1,10 +1,7 @@
 -- `survey_file::posts_in` meets its contract.
-use Prim.Native.Nat.{_*_, _≤_}
 use native.Mathlib.Omega.{arith}
-use mathlib.Core.Path.{_≡_, sym, _∙_}
+use mathlib.Core.Path.{sym, _∙_}
 use borrow.Author.Needs.{needs}
-use Rattle.surface.specs.Plot.{maxPosts}
-use Rattle.survey_file.specs.Layout.{plotPosts}
 use Rattle.survey_file.proofs.Posts.{plot-posts, no-posts, short-posts}
 use Rattle.survey_file.proofs.posts_in.Statement.{statement}
 use Rattle.survey_file.proofs.posts_in.Tie as tie
@@ -26,13 +23,6 @@ pub posts-in-spec : {M : Type 1} → statement M
 posts-in-spec =
     tie.close
     (tie.spec
-    returns
-    (search needs)
-    (search needs)
-    (search needs)
-    (search needs)
-    (search needs)
-    (λ c. omega (arith, returns-2 c .1))
-    (λ c. omega (arith, returns-2 c .1))
-    returns-2
+    returns (search needs) (search needs) (search needs) (search needs) (search needs)
+    (λ c. omega (arith, returns-2 c .1)) (λ c. omega (arith, returns-2 c .1)) returns-2
     returns-3)

@@ -1,7 +1,6 @@
 -- `survey_file::reading::read_heights` meets its contract. The loop's invariant: the first i heights are the file's, the others are as they were.
 use Prim.Native.Nat.{ℕ, _-_, _≤_, _<_}
 use mathlib.Core.Path.{_≡_, sym, _∙_, ap}
-use mathlib.Core.Bool.{true}
 use mathlib.Core.List.{List}
 use native.Mathlib.Omega.{arith}
 use borrow.Author.Needs.{needs}
@@ -38,32 +37,31 @@ module _ (l : tie.At-loop Inv-loop μ-loop) where
   kept : length (l .loop .heights) ≡ length H₀
   kept = filled-length (height F) H₀ (l .loop .i) (l .loop .heights) (l .loop .inv .0) (l .loop .inv .1)
 
--- the filed height, which is in range
-tenths : (c : tie.After-tenths-at Inv-loop μ-loop) → toZ w32 (ofZ w32 (c .tenths-at .result)) ≡ c .tenths-at .result
-tenths c = search needs
-
-loop-again : tie.Need-loop-again Inv-loop μ-loop
-loop-again c =
-    let l = c .before .before .before in
-    let i = l .loop .i in
-    let r : toZ w32 (ofZ w32 (c .round .result)) ≡ c .round .result = search needs in
-    let v : c .round .result ≡ height (F l) i = (rw (tenths (c .before)) at (c .round .ensures)) ∙ ap rounded (c .before .tenths-at .ensures) in
-    let h : i < length (H₀ l) = omega (arith, kept l) in
-    (omega arith, filled-more (height (F l)) (H₀ l) i (l .loop .heights) _ h (l .loop .inv .1) (r ∙ v))
+-- a filed height's bits are read back as the height
+bits : (c : tie.After-tenths-at Inv-loop μ-loop) → toZ w32 (ofZ w32 (c .tenths-at .result)) ≡ c .tenths-at .result
+bits c = search needs
 
 round-requires : tie.Need-round-requires Inv-loop μ-loop
 round-requires c κs =
     let l = c .before .before in
     let n = length (H₀ l) in
     let h : l .loop .i < n = omega (arith, kept l) in
-    let e = firstNot-all isTenths (tenthsOf (F l) n) (pos 0) (l .before .before .pre .1 ∙ sym (length-tenthsOf (F l) n)) (l .loop .i) (rw length-tenthsOf h) in
-    rw (tenths c, c .tenths-at .ensures) (rw (getD-tenthsOf (F l) n (l .loop .i) h) at e)
+    let none = l .before .before .pre .1 ∙ sym (length-tenthsOf (F l) n) in
+    let e = firstNot-all isTenths (tenthsOf (F l) n) (pos 0) none (l .loop .i) (rw length-tenthsOf h) in
+    rw (bits c, c .tenths-at .ensures) (rw (getD-tenthsOf (F l) n (l .loop .i) h) at e)
+
+loop-again : tie.Need-loop-again Inv-loop μ-loop
+loop-again c =
+    let l = c .before .before .before in
+    let r : toZ w32 (ofZ w32 (c .round .result)) ≡ c .round .result = search needs in
+    let v = r ∙ (rw (bits (c .before)) at (c .round .ensures)) ∙ ap rounded (c .before .tenths-at .ensures) in
+    let h : l .loop .i < length (H₀ l) = omega (arith, kept l) in
+    (omega arith, filled-more (height (F l)) (H₀ l) (l .loop .i) (l .loop .heights) _ h (l .loop .inv .1) v)
 
 returns : tie.Need-returns Inv-loop μ-loop
 returns c =
     let l = c .before in
-    let end : l .loop .i ≡ length (H₀ l) = omega (arith, kept l) in
-    filled-all (height (F l)) (H₀ l) (l .loop .i) (l .loop .heights) end (l .loop .inv .1) ∙ sym (heightsIn-is (F l) (length (H₀ l)))
+    filled-all (height (F l)) (H₀ l) (l .loop .i) (l .loop .heights) (omega (arith, kept l)) (l .loop .inv .1) ∙ sym (heightsIn-is (F l) _)
 
 pub read-heights-spec : {M : Type 1} → statement M
 read-heights-spec =
@@ -73,9 +71,7 @@ read-heights-spec =
     μ-loop
     (λ c. (omega arith, filled-none _ _))
     (λ c κs. omega (arith, kept (c .before)))
-    round-requires
-    (search needs)
-    (search needs)
+    round-requires (search needs) (search needs)
     (λ c. omega (arith, kept (c .before .before .before)))
     (λ c. omega (arith, kept (c .before .before .before)))
     loop-again

@@ -1,5 +1,4 @@
 -- `survey_file::tenths::filed` meets its contract: ten times a height in range fits 32 bits.
-use mathlib.Core.Path.{_≡_}
 use borrow.Author.Needs.{needs}
 use lib.IntN.{pos, _*ℤ_}
 use mir.Syntax.{w32}
@@ -12,11 +11,8 @@ use Rattle.survey_file.proofs.tenths.filed.Tie as tie
 tenfold : (c : tie.Start) → SFits w32 (c .args .h *ℤ pos 10)
 tenfold c = record { sfits = mag-tenfold (c .args .h) (c .pre) }
 
-mul-as-unsigned : tie.Need-mul-as-unsigned
-mul-as-unsigned c = rw (toZ-ofZ (c .fits .h)) (tenfold c)
-
 returns : tie.Need-returns
 returns c = rw (toZ-ofZ (c .before .fits .h), toZ-ofZ (tenfold (c .before))) at (c .as-unsigned .ensures)
 
 pub filed-spec : {M : Type 1} → statement M
-filed-spec = tie.close (tie.spec mul-as-unsigned (search needs) returns)
+filed-spec = tie.close (tie.spec (λ c. rw (toZ-ofZ (c .fits .h)) (tenfold c)) (search needs) returns)

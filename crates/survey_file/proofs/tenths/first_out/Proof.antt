@@ -1,5 +1,5 @@
 -- `survey_file::tenths::first_out` meets its contract. The loop's invariant: what is looked for is i further than in the filed heights from i on.
-use Prim.Native.Nat.{_+_, _-_, _≤_, _<_}
+use Prim.Native.Nat.{_+_, _-_, _≤_}
 use mathlib.Core.Path.{_≡_, sym, _∙_, ap}
 use mathlib.Core.List.{List}
 use native.Mathlib.Omega.{arith}
@@ -58,11 +58,7 @@ first-out-spec =
     (tie.spec
     Inv-loop
     μ-loop
-    (λ c. omega arith)
-    (λ c κs. omega arith)
-    (search needs)
-    returns
-    (λ c. omega arith)
-    (λ c. omega arith)
+    (λ c. omega arith) (λ c κs. omega arith) (search needs)
+    returns (λ c. omega arith) (λ c. omega arith)
     loop-again
     returns-2)

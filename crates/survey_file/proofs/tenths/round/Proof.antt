@@ -1,5 +1,5 @@
 -- `survey_file::tenths::round` meets its contract, below zero and from zero on.
-use mathlib.Core.Path.{_≡_, _∙_}
+use mathlib.Core.Path.{_≡_}
 use native.Mathlib.Omega.{arith}
 use lib.IntN.{pos, _+ℤ_, _-ℤ_}
 use mir.Syntax.{w32}
@@ -19,23 +19,19 @@ down c = half-down _ (c .before .pre) (rw (bits (c .before)) at (c .if1 .taken))
 up : (c : tie.Else1) → Halved (c .before .args .t) (c .before .args .t +ℤ pos 5)
 up c = half-up _ (c .before .pre) (rw (bits (c .before)) at (c .if1 .left))
 
-sub-result : tie.Need-sub-result
-sub-result c = rw (bits (c .before)) (down c .fits)
-
-div-result : tie.Need-div-result
-div-result c = rw (bits (c .before), toZ-ofZ (down c .fits)) (omega arith, down c .quotFits)
-
 returns : tie.Need-returns
 returns c = rw (bits (c .before), toZ-ofZ (down c .fits), toZ-ofZ (down c .quotFits)) (down c .is)
-
-add-result : tie.Need-add-result
-add-result c = rw (bits (c .before)) (up c .fits)
-
-div-result-2 : tie.Need-div-result-2
-div-result-2 c = rw (bits (c .before), toZ-ofZ (up c .fits)) (omega arith, up c .quotFits)
 
 returns-2 : tie.Need-returns-2
 returns-2 c = rw (bits (c .before), toZ-ofZ (up c .fits), toZ-ofZ (up c .quotFits)) (up c .is)
 
 pub round-spec : {M : Type 1} → statement M
-round-spec = tie.close (tie.spec sub-result div-result returns add-result div-result-2 returns-2)
+round-spec =
+    tie.close
+    (tie.spec
+    (λ c. rw (bits (c .before)) (down c .fits))
+    (λ c. rw (bits (c .before), toZ-ofZ (down c .fits)) (omega arith, down c .quotFits))
+    returns
+    (λ c. rw (bits (c .before)) (up c .fits))
+    (λ c. rw (bits (c .before), toZ-ofZ (up c .fits)) (omega arith, up c .quotFits))
+    returns-2)

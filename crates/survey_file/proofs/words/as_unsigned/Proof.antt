@@ -23,18 +23,6 @@ low c = negative (c .before .args .z) (c .before .fits .z) (rw (bits (c .before)
 high : (c : tie.Else1) → let z = c .before .args .z in T (nonNeg z) × (natAbs z ≡ unsigned z)
 high c = natural (c .before .args .z) (rw (bits (c .before)) at (c .if1 .left))
 
-sub-result : tie.Need-sub-result
-sub-result c = rw (bits (c .before), low c .2) (record { sfits = low c .1 })
-
-cast-result : tie.Need-cast-result
-cast-result c = rw (bits (c .before), low c .2, toZ-pos w32 (low c .1)) (tt, record { fits = omega (arith, low c .1) })
-
-sub-result-2 : tie.Need-sub-result-2
-sub-result-2 c = rw (bits (c .before), low c .2, toZ-pos w32 (low c .1)) (omega (arith, low c .1))
-
-cast-result-2 : tie.Need-cast-result-2
-cast-result-2 c = rw (bits (c .before)) (high c .0, fits-natAbs tt (c .before .fits .z))
-
 returns : tie.Need-returns
 returns c = rw (bits (c .before), low c .2, toZ-pos w32 (low c .1)) (low c .3)
 
@@ -42,4 +30,12 @@ returns-2 : tie.Need-returns-2
 returns-2 c = rw (bits (c .before)) (high c .1)
 
 pub as-unsigned-spec : {M : Type 1} → statement M
-as-unsigned-spec = tie.close (tie.spec sub-result cast-result sub-result-2 cast-result-2 returns returns-2)
+as-unsigned-spec =
+    tie.close
+    (tie.spec
+    (λ c. rw (bits (c .before), low c .2) (record { sfits = low c .1 }))
+    (λ c. rw (bits (c .before), low c .2, toZ-pos w32 (low c .1)) (tt, record { fits = omega (arith, low c .1) }))
+    (λ c. rw (bits (c .before), low c .2, toZ-pos w32 (low c .1)) (omega (arith, low c .1)))
+    (λ c. rw (bits (c .before)) (high c .0, fits-natAbs tt (c .before .fits .z)))
+    returns
+    returns-2)

@@ -11,9 +11,11 @@ returns c = omega arith
 
 pub word-at-spec : {M : Type 1} → statement M
 word-at-spec =
-    tie.close (tie.spec
-    (search needs) (λ c κs. tt) (λ c. omega arith)
-    (λ c. omega arith) (λ c κs. tt) (λ c. omega arith)
-    (λ c. omega arith) (λ c κs. tt) (λ c. omega arith)
-    (λ c. omega arith) (λ c κs. tt)
-    (λ c. omega arith) (λ c. omega arith) (λ c. omega arith) (λ c. omega arith) (λ c. omega arith) (λ c. omega arith) returns)
+    tie.close
+    (tie.spec
+    (search needs) (search needs)
+    (search needs) (search needs) (search needs)
+    (search needs) (search needs) (search needs)
+    (search needs) (search needs) (search needs)
+    (search needs) (search needs) (search needs) (search needs) (search needs) (search needs)
+    returns)

@@ -20,13 +20,8 @@ write-header-spec =
     tie.close
     (tie.spec
     (search needs)
-    (λ c. omega arith)
-    (λ c. omega arith)
-    (λ c. omega arith)
-    (λ c κs. simp length-set (omega arith))
-    (search needs)
-    (λ c. omega (arith, kept (c .before .before)))
-    (search needs)
-    (λ c. search needs)
+    (λ c. omega arith) (λ c. omega arith) (λ c. omega arith) (λ c κs. simp length-set (omega arith))
+    (search needs) (λ c. omega (arith, kept (c .before .before)))
+    (search needs) (λ c. search needs)
     (λ c. simp length-set (kept (c .before .before)))
     returns)

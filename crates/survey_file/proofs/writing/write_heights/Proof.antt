@@ -31,11 +31,14 @@ module _ (l : tie.At-loop Inv-loop μ-loop) where
   abbrev F₀ : List ℕ
   F₀ = l .before .before .args .file .now
 
+  abbrev h : ℤ
+  h = getD H (l .loop .i) (pos 0)
+
   kept : length (l .loop .file) ≡ length F₀
   kept = ap length (l .loop .inv .1) ∙ length-sets F₀ headerSize (filedHeights (take (l .loop .i) H))
 
 -- a height's bits are read back as the height
-bits : (c : tie.After-filed-arg Inv-loop μ-loop) → let l = c .before .before .before in toZ w32 (ofZ w32 (getD (H l) (l .loop .i) (pos 0))) ≡ getD (H l) (l .loop .i) (pos 0)
+bits : (c : tie.After-filed-arg Inv-loop μ-loop) → toZ w32 (ofZ w32 (h (c .before .before .before))) ≡ h (c .before .before .before)
 bits c = search needs
 
 loop-holds : tie.Need-loop-holds Inv-loop μ-loop
@@ -43,14 +46,16 @@ unfolding filedHeights
 loop-holds c = (omega arith, refl)
 
 filed-requires : tie.Need-filed-requires Inv-loop μ-loop
-filed-requires c κs = let l = c .before .before .before in rw (bits c) (all-at isHeight (H l) (pos 0) refl (l .before .before .pre .1) (l .loop .i))
+filed-requires c κs =
+    let l = c .before .before .before in
+    rw (bits c) (all-at isHeight (H l) (pos 0) refl (l .before .before .pre .1) (l .loop .i))
 
 loop-again : tie.Need-loop-again Inv-loop μ-loop
 loop-again c =
     let f = c .before .before .before in
     let l = f .before .before .before .before in
     let n = rw (bits (f .before)) at (f .filed .ensures) in
-    (omega arith, rw (c .before .before .put-word .ensures, l .loop .inv .1) (filed-more (H l) (F₀ l) (l .loop .i) _ (f .before .before .before .loop-test .taken) n))
+    (omega arith, rw (c .before .before .put-word .ensures, l .loop .inv .1) (filed-more (H l) (F₀ l) (l .loop .i) _ (omega arith) n))
 
 returns : tie.Need-returns Inv-loop μ-loop
 returns c =
@@ -67,12 +72,9 @@ write-heights-spec =
     loop-holds
     (λ c. omega (arith, kept (c .before .before)))
     (λ c. omega (arith, kept (c .before .before)))
-    (search needs)
-    (search needs)
-    filed-requires
+    (search needs) (search needs) filed-requires
     (λ c κs. omega (arith, kept (c .before .before .before .before)))
-    (λ c. omega arith)
-    (λ c. omega arith)
+    (λ c. omega arith) (λ c. omega arith)
     loop-again
     (λ c. kept (c .before))
     returns)
