@@ -8,8 +8,8 @@ use lib.Dec.{T, ltb}
 use lib.IntN.{ℤ, pos, negsuc, negℤ, natAbs, _+ℤ_, _-ℤ_}
 use lib.Signed.{mag, ltZ, nonNeg, quotZ}
 use mir.Syntax.{w32}
-use mir.Val.{toZ, sel, SFits}
-use mir.ValLaws.{toZ-pos, toZ-fits}
+use mir.Val.{toZ, ofZ, sel, SFits}
+use mir.ValLaws.{toZ-pos, toZ-ofZ, toZ-fits}
 use Rattle.surface.specs.SurveyFile.{signed, unsigned, isTenths, rounded}
 use Rattle.surface.proofs.General.Bools.{and-left}
 
@@ -51,27 +51,26 @@ mag-neg : (k : ℕ) → mag (negℤ (pos k)) ≤ k
 mag-neg zero = omega arith
 mag-neg (suc k) = omega arith
 
--- a filed height, a half further from zero, divided toward zero
+-- what a filed height t is rounded to: moved by a half away from zero and divided toward zero. (A local holds its number's bits.)
 pub record Halved (t far : ℤ) : Type 0 where
   pub fits : SFits w32 far
-  pub quotFits : SFits w32 (quotZ far (pos 10))
-  pub is : quotZ far (pos 10) ≡ rounded t
+  pub quotFits : SFits w32 (quotZ (toZ w32 (ofZ w32 far)) (pos 10))
+  pub is : toZ w32 (ofZ w32 (quotZ (toZ w32 (ofZ w32 far)) (pos 10))) ≡ rounded t
+
+halved : (t far : ℤ) → SFits w32 far → SFits w32 (quotZ far (pos 10)) → quotZ far (pos 10) ≡ rounded t → Halved t far
+halved t far f q e = record { fits = f; quotFits = rw (toZ-ofZ w32 far f) q; is = rw (toZ-ofZ w32 far f, toZ-ofZ w32 _ q) e }
 
 pub half-down : (t : ℤ) → isTenths t ≡ true → ltZ t (pos 0) ≡ true → Halved t (t -ℤ pos 5)
 unfolding rounded
 half-down (pos n) h e = absurd (omega (arith, ltb-true n 0 e))
 half-down (negsuc n) h e =
     let low = ltb-false 9999999 n (not-true _ (and-left _ _ h)) in
-    let e : suc (suc (n + 4)) ≡ n + 1 + 5 = omega arith in
-    record {
-      fits = record { sfits = omega arith };
-      quotFits = record { sfits = omega (arith, mag-neg (suc (suc (n + 4)) / 10)) };
-      is = rw e;
-    }
+    let k : suc (suc (n + 4)) ≡ n + 1 + 5 = omega arith in
+    halved _ _ (record { sfits = omega arith }) (record { sfits = omega (arith, mag-neg (suc (suc (n + 4)) / 10)) }) (rw k)
 
 pub half-up : (t : ℤ) → isTenths t ≡ true → ltZ t (pos 0) ≡ false → Halved t (t +ℤ pos 5)
 unfolding rounded
 half-up (negsuc n) h e = absurd (true≢false e)
 half-up (pos n) h e =
     let low = ltb-false 10000000 n (not-true _ h) in
-    record { fits = record { sfits = omega arith }; quotFits = record { sfits = omega arith }; is = refl }
+    halved _ _ (record { sfits = omega arith }) (record { sfits = omega arith }) refl

@@ -43,8 +43,9 @@ pub filed-more :
     → n ≡ unsigned (getD hs i (pos 0) *ℤ pos 10)
     → sets (sets l headerSize (filedHeights (take i hs))) (heightAt i) (bytesOf n) ≡ sets l headerSize (filedHeights (take (i + 1) hs))
 filed-more hs l i n h e =
-    let k : heightAt i ≡ headerSize + length (filedHeights (take i hs)) = omega (arith, length-filedHeights (take i hs), length-take-le i hs (omega arith)) in
-    rw (k, e, filedHeights-take hs i h) (sets-append l (filedHeights (take i hs)) _ headerSize)
+    let stored = filedHeights (take i hs) in
+    let k : heightAt i ≡ headerSize + length stored = omega (arith, length-filedHeights (take i hs), length-take-le i hs (omega arith)) in
+    rw (k, e, filedHeights-take hs i h) (sets-append l stored _ headerSize)
 
 -- the header and the heights make the file
 pub file-stored :

@@ -15,7 +15,7 @@ ghost use Rattle.surface.specs.SurveyFile.{isTenths, tenthsOf, heightsIn};
 ghost use Rattle.surface.specs.Refusals.{readVerdict};
 ghost use Rattle.survey_file.specs.Layout.{heightAt};
 
-// What reading returns first: rows 10, 11, 1, 12, 3 and 4 of the table, in that order.
+// What reading returns first: rows 10, 11, 1, 12, 3 and 4 of the table, in that order. Row 1 holds exactly where the file's plot can have no posts.
 pub(crate) fn read_verdict(file: &[u8], heights: &[i32]) -> Answer
     ensures { λ r. ⌜ r ≡ readVerdict (now (file .entry)) (now (heights .entry)) ⌝ }
 {

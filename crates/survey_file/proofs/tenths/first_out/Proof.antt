@@ -31,7 +31,10 @@ module _ (l : tie.At-loop Inv-loop μ-loop) where
   many = length-tenthsOf (l .before .before .args .file .now) (l .before .before .args .n)
 
 -- what `is_tenths` was asked and said
-tested : (c : tie.After-is-tenths Inv-loop μ-loop) → let l = c .before .before .before in c .is-tenths .result ≡ isTenths (getD (Ts l) (l .loop .i) (pos 0))
+tested :
+    (c : tie.After-is-tenths Inv-loop μ-loop)
+    → let l = c .before .before .before in
+    c .is-tenths .result ≡ isTenths (getD (Ts l) (l .loop .i) (pos 0))
 tested c =
     let l = c .before .before .before in
     let t = c .before .tenths-at .result in

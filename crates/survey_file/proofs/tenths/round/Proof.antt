@@ -9,29 +9,18 @@ use Rattle.survey_file.proofs.Numbers.{Halved, half-down, half-up}
 use Rattle.survey_file.proofs.tenths.round.Statement.{statement}
 use Rattle.survey_file.proofs.tenths.round.Tie as tie
 
--- a local holds its number's bits, which are read back as the number
 bits : (c : tie.Start) → toZ w32 (ofZ w32 (c .args .t)) ≡ c .args .t
 bits c = toZ-ofZ (c .fits .t)
 
-down : (c : tie.Then1) → Halved (c .before .args .t) (c .before .args .t -ℤ pos 5)
-down c = half-down _ (c .before .pre) (rw (bits (c .before)) at (c .if1 .taken))
+down : (c : tie.Then1) → let t = c .before .args .t in Halved t (toZ w32 (ofZ w32 t) -ℤ pos 5)
+down c = rw (bits (c .before)) (half-down _ (c .before .pre) (rw (bits (c .before)) at (c .if1 .taken)))
 
-up : (c : tie.Else1) → Halved (c .before .args .t) (c .before .args .t +ℤ pos 5)
-up c = half-up _ (c .before .pre) (rw (bits (c .before)) at (c .if1 .left))
-
-returns : tie.Need-returns
-returns c = rw (bits (c .before), toZ-ofZ (down c .fits), toZ-ofZ (down c .quotFits)) (down c .is)
-
-returns-2 : tie.Need-returns-2
-returns-2 c = rw (bits (c .before), toZ-ofZ (up c .fits), toZ-ofZ (up c .quotFits)) (up c .is)
+up : (c : tie.Else1) → let t = c .before .args .t in Halved t (toZ w32 (ofZ w32 t) +ℤ pos 5)
+up c = rw (bits (c .before)) (half-up _ (c .before .pre) (rw (bits (c .before)) at (c .if1 .left)))
 
 pub round-spec : {M : Type 1} → statement M
 round-spec =
     tie.close
     (tie.spec
-    (λ c. rw (bits (c .before)) (down c .fits))
-    (λ c. rw (bits (c .before), toZ-ofZ (down c .fits)) (omega arith, down c .quotFits))
-    returns
-    (λ c. rw (bits (c .before)) (up c .fits))
-    (λ c. rw (bits (c .before), toZ-ofZ (up c .fits)) (omega arith, up c .quotFits))
-    returns-2)
+    (λ c. down c .fits) (λ c. (omega arith, down c .quotFits)) (λ c. down c .is)
+    (λ c. up c .fits) (λ c. (omega arith, up c .quotFits)) (λ c. up c .is))
