@@ -1,5 +1,5 @@
 -- Runs of stores into a file: one after the other, the header and then the heights.
-use Prim.Native.Nat.{ℕ, suc, _+_, _*_, _%_, _<_}
+use Prim.Native.Nat.{ℕ, suc, _+_, _<_}
 use native.Mathlib.Nat.{add-zero}
 use native.Mathlib.Omega.{arith}
 use mathlib.Core.Path.{_≡_, _∙_}
@@ -25,16 +25,6 @@ module _ {A : Type 0} where
   sets-all l vs e =
       let k : 0 + length vs ≡ length l = omega arith in
       sets-eq vs l 0 (omega arith) ∙ rw (k, drop-length l) (append-nil vs)
-
--- the header as it is stored, byte by byte and a word
-pub header-stored :
-    (rows columns : ℕ) (l : List ℕ) → rows < 256 → columns < 256
-    → set (set (sets (set l 0 1) 1 (bytesOf (2 + 4 * (rows * columns)))) 5 (rows % 256)) 6 (columns % 256) ≡ sets l 0 (header rows columns)
-unfolding header bytesOf
-header-stored rows columns l r c =
-    let rs : rows % 256 ≡ rows = omega arith in
-    let cs : columns % 256 ≡ columns = omega arith in
-    rw (rs, cs)
 
 -- the heights of i posts are stored behind the header, then those of i + 1
 pub filed-more :

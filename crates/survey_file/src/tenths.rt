@@ -18,15 +18,16 @@ const LOWEST_FILED: i32 = -10000000;
 
 const HIGHEST_FILED: i32 = 10000000;
 
-// Tenths to whole millimetres, a half going away from zero: `/` goes toward zero.
+// Tenths to whole millimetres, a half going away from zero: `/` goes toward zero. (With a division for each sign the compiler branches on it.)
 pub(crate) fn round(t: i32) -> i32
     requires { ⌜ isTenths t ≡ true ⌝ }
     ensures { λ r. ⌜ r ≡ rounded t ⌝ }
 {
+    let mut half = 5;
     if t < 0 {
-        return (t - 5) / 10;
+        half = -5;
     }
-    (t + 5) / 10
+    (t + half) / 10
 }
 
 // Whether a filed height is in range.

@@ -39,8 +39,8 @@ pub(crate) fn write_header(rows: u32, columns: u32, file: &mut [u8])
 {
     file[0] = VERSION;
     put_word(file, 1, 2 + 4 * (rows * columns));
-    file[5] = (rows % 256) as u8;
-    file[6] = (columns % 256) as u8;
+    file[5] = rows as u8;
+    file[6] = columns as u8;
 }
 
 // Writes the heights after them.

@@ -13,7 +13,9 @@ use Rattle.survey_file.proofs.write_survey.Tie as tie
 
 -- where it was accepted
 module _ (c : tie.Else1) where
-  accepted : let a = c .before .before .before .before .before .args in writeVerdict (plot (a .rows) (a .columns) (a .heights .now)) (a .file .now) .code ≡ 0
+  accepted :
+      let a = c .before .before .before .before .before .args in
+      writeVerdict (plot (a .rows) (a .columns) (a .heights .now)) (a .file .now) .code ≡ 0
   accepted = rw (c .before .before .write-verdict .ensures) at (c .if1 .left)
 
   given : let a = c .before .before .before .before .before .args in ForWrite (plot (a .rows) (a .columns) (a .heights .now)) (a .file .now)

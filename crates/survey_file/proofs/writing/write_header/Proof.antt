@@ -1,9 +1,10 @@
--- `survey_file::writing::write_header` meets its contract: a side is below 256, so that each byte is its number, and the count fits 32 bits.
+-- `survey_file::writing::write_header` meets its contract: a side is below 256 and the count fits 32 bits.
 use mathlib.Core.Path.{_≡_, _∙_}
 use native.Mathlib.Omega.{arith}
 use borrow.Author.Needs.{needs}
 use lib.ListN.{length, length-set}
-use Rattle.survey_file.proofs.Stores.{header-stored}
+use Rattle.surface.specs.SurveyFile.{bytesOf}
+use Rattle.survey_file.specs.Layout.{header}
 use Rattle.survey_file.proofs.writing.write_header.Statement.{statement}
 use Rattle.survey_file.proofs.writing.write_header.Tie as tie
 
@@ -11,9 +12,8 @@ kept : (c : tie.After-put-word) → length (c .put-word .last .0) ≡ length (c 
 kept c = c .put-word .kept .0 ∙ length-set (c .before .before .before .args .file .now) 0 1
 
 returns : tie.Need-returns
-returns c =
-    let s = c .before .before .before .before .before in
-    rw (c .before .before .put-word .ensures) (header-stored (s .args .rows) (s .args .columns) (s .args .file .now) (omega arith) (omega arith))
+unfolding header bytesOf
+returns c = rw (c .before .before .put-word .ensures)
 
 pub write-header-spec : {M : Type 1} → statement M
 write-header-spec =
@@ -21,7 +21,7 @@ write-header-spec =
     (tie.spec
     (search needs)
     (λ c. omega arith) (λ c. omega arith) (λ c. omega arith) (λ c κs. simp length-set (omega arith))
-    (search needs) (λ c. omega (arith, kept (c .before .before)))
-    (search needs) (λ c. search needs)
+    (λ c. omega arith) (λ c. omega (arith, kept (c .before .before)))
+    (λ c. omega arith) (λ c. search needs)
     (λ c. simp length-set (kept (c .before .before)))
     returns)
