@@ -1,3 +1,4 @@
--- Laws on plain numbers and lists, for the proofs of this crate.
+-- Laws on plain numbers and lists, for the proofs of this crate; those of a file's posts also for the callers of `posts_in`.
 mod Numbers
+pub mod Posts
 mod Stores

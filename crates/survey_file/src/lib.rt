@@ -1,9 +1,10 @@
-// Survey files, document 01, "Survey file": a file to heights in whole millimetres, and heights to a file.
+// Survey files (docs/SPECIFICATION.md, "Survey file"): a file to heights in whole millimetres, and heights to a file.
 mod reading;
-pub mod tenths;
+mod tenths;
 mod words;
 mod writing;
 
+use limits::is_plot;
 use reading::read_heights;
 use reading::read_verdict;
 use surface::Answer;
@@ -13,8 +14,30 @@ use writing::write_header;
 use writing::write_heights;
 use writing::write_verdict;
 ghost use mathlib.Core.Path.{_≡_};
-ghost use Rattle.surface.specs.Plot.{plot};
+ghost use Prim.Native.Nat.{_≤_};
+ghost use Rattle.surface.specs.Plot.{plot, maxPosts};
 ghost use Rattle.surface.specs.Calls.{readAnswer, readHeights, writeAnswer, writeFile};
+ghost use Rattle.survey_file.specs.Layout.{plotPosts};
+
+// The first byte of a file, and how many bytes stand before its heights.
+const VERSION: u8 = 1;
+
+const HEADER: usize = 7;
+
+// How many posts the file's plot has, 0 where it can have none.
+pub fn posts_in(file: &[u8]) -> usize
+    ensures { λ r. ⌜ (r ≡ plotPosts (now (file .entry))) × (r ≤ maxPosts) ⌝ }
+{
+    if file.len() < HEADER {
+        return 0;
+    }
+    let rows = wide(file[5]);
+    let columns = wide(file[6]);
+    if is_plot(rows, columns) {
+        return (rows * columns) as usize;
+    }
+    0
+}
 
 // Reads a file into the list. Refused: the list stays as it was.
 pub fn read_survey(file: &[u8], heights: &mut [i32]) -> Size
@@ -22,10 +45,9 @@ pub fn read_survey(file: &[u8], heights: &mut [i32]) -> Size
     ensures { λ _. ⌜ now (heights .exit) ≡ readHeights (now (file .entry)) (now (heights .entry)) ⌝ }
 {
     let verdict = read_verdict(file, heights);
-    let code = verdict.code;
-    if code != 0 {
+    if verdict.code != 0 {
         return Size {
-            code,
+            code: verdict.code,
             place: verdict.place,
             rows: 0,
             columns: 0,
@@ -46,8 +68,7 @@ pub fn write_survey(rows: u32, columns: u32, heights: &[i32], file: &mut [u8]) -
     ensures { λ _. ⌜ now (file .exit) ≡ writeFile (plot rows columns (now (heights .entry))) (now (file .entry)) ⌝ }
 {
     let verdict = write_verdict(rows, columns, heights, file);
-    let code = verdict.code;
-    if code != 0 {
+    if verdict.code != 0 {
         return verdict;
     }
     write_header(rows, columns, file);

@@ -1,49 +1,53 @@
 // Filed heights, in tenths of a millimetre.
+use crate::HEADER;
 use crate::words::as_signed;
 use crate::words::as_unsigned;
 use crate::words::word_at;
 ghost use mathlib.Core.Path.{_≡_};
 ghost use mathlib.Core.Bool.{true};
-ghost use Prim.Native.Nat.{_+_, _*_, _≤_};
+ghost use Prim.Native.Nat.{_+_, _≤_};
 ghost use lib.IntN.{pos, _*ℤ_};
 ghost use lib.ListN.{length};
 ghost use Rattle.surface.specs.Lists.{firstNot};
 ghost use Rattle.surface.specs.Plot.{isHeight};
 ghost use Rattle.surface.specs.SurveyFile.{wordAt, signed, unsigned, isTenths, tenthsOf, rounded};
+ghost use Rattle.survey_file.specs.Layout.{heightAt};
 
-// Tenths to whole millimetres, a half going away from zero: `/` and `%` go toward zero, and the remainder has the sign of t.
-pub fn round(t: i32) -> i32
+// The lowest and the highest filed height.
+const LOWEST_FILED: i32 = -10000000;
+
+const HIGHEST_FILED: i32 = 10000000;
+
+// Tenths to whole millimetres, a half going away from zero: `/` goes toward zero. (With a division for each sign the compiler branches on it.)
+pub(crate) fn round(t: i32) -> i32
+    requires { ⌜ isTenths t ≡ true ⌝ }
     ensures { λ r. ⌜ r ≡ rounded t ⌝ }
 {
-    let millimetres = t / 10;
-    let rest = t % 10;
-    if 5 <= rest {
-        return millimetres + 1;
+    let mut half = 5;
+    if t < 0 {
+        half = -5;
     }
-    if rest <= -5 {
-        return millimetres - 1;
-    }
-    millimetres
+    (t + half) / 10
 }
 
 // Whether a filed height is in range.
 pub(crate) fn is_tenths(t: i32) -> bool
     ensures { λ r. ⌜ r ≡ isTenths t ⌝ }
 {
-    !(t < -10000000) & !(10000000 < t)
+    !(t < LOWEST_FILED) & !(HIGHEST_FILED < t)
 }
 
 // The filed height of a post.
 pub(crate) fn tenths_at(file: &[u8], post: usize) -> i32
-    requires { ⌜ 7 + 4 * post + 4 ≤ length (now file) ⌝ }
-    ensures { λ r. ⌜ r ≡ signed (wordAt (now (file .entry)) (7 + 4 * post)) ⌝ }
+    requires { ⌜ heightAt (post + 1) ≤ length (now file) ⌝ }
+    ensures { λ r. ⌜ r ≡ signed (wordAt (now (file .entry)) (heightAt post)) ⌝ }
 {
-    as_signed(word_at(file, 7 + 4 * post))
+    as_signed(word_at(file, HEADER + 4 * post))
 }
 
 // The first of n posts whose filed height is out of range, n where none is.
 pub(crate) fn first_out(file: &[u8], n: usize) -> usize
-    requires { ⌜ 7 + 4 * n ≤ length (now file) ⌝ }
+    requires { ⌜ heightAt n ≤ length (now file) ⌝ }
     ensures { λ r. ⌜ r ≡ firstNot isTenths (tenthsOf (now (file .entry)) n) ⌝ }
 {
     let mut i = 0;

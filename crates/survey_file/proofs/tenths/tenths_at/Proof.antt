@@ -1,23 +1,11 @@
 -- `survey_file::tenths::tenths_at` meets its contract, which joins those of its two callees.
 use mathlib.Core.Path.{_≡_, _∙_, ap}
+use borrow.Author.Needs.{needs}
 use mir.Syntax.{w32}
 use mir.Val.{toZ, ofZ}
 use Rattle.surface.specs.SurveyFile.{signed}
-use borrow.Author.Needs.{needs}
 use Rattle.survey_file.proofs.tenths.tenths_at.Statement.{statement}
 use Rattle.survey_file.proofs.tenths.tenths_at.Tie as tie
-
-mul-word-at : tie.Need-mul-word-at
-mul-word-at c = search needs
-
-add-word-at : tie.Need-add-word-at
-add-word-at c = search needs
-
-word-at-requires : tie.Need-word-at-requires
-word-at-requires c κs = search needs
-
-as-signed-requires : tie.Need-as-signed-requires
-as-signed-requires c κs = search needs
 
 returns : tie.Need-returns
 returns c =
@@ -25,5 +13,4 @@ returns c =
     r ∙ c .as-signed .ensures ∙ ap signed (c .before .word-at .ensures)
 
 pub tenths-at-spec : {M : Type 1} → statement M
-tenths-at-spec =
-    tie.close (tie.spec mul-word-at add-word-at word-at-requires as-signed-requires returns)
+tenths-at-spec = tie.close (tie.spec (search needs) (search needs) (search needs) (search needs) returns)

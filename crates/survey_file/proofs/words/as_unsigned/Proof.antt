@@ -1,44 +1,41 @@
--- `survey_file::words::as_unsigned` meets its contract, by the laws of `unsigned` below zero and from zero on.
+-- `survey_file::words::as_unsigned` meets its contract, below zero and from zero on.
+use Prim.Native.Nat.{ℕ, _-_, _<_}
 use native.Mathlib.Omega.{arith}
 use mathlib.Core.Path.{_≡_}
-use lib.IntN.{negsuc, _-ℤ_}
+use lib.Dec.{T}
+use lib.IntN.{pos, negsuc, natAbs, _-ℤ_}
+use lib.Signed.{nonNeg}
 use mir.Syntax.{w32}
 use mir.Val.{toZ, ofZ}
-use mir.ValLaws.{toZ-ofZ}
-use Rattle.survey_file.proofs.Numbers.{Flipped, flipped, Kept, kept}
+use mir.Facts.{toZ-ofZ, toZ-pos, fits-natAbs}
+use Rattle.surface.specs.SurveyFile.{unsigned}
+use Rattle.survey_file.proofs.Numbers.{negative, natural}
 use Rattle.survey_file.proofs.words.as_unsigned.Statement.{statement}
 use Rattle.survey_file.proofs.words.as_unsigned.Tie as tie
 
-bits-z : (c : tie.Start) → toZ w32 (ofZ w32 (c .args .z)) ≡ c .args .z
-bits-z c = toZ-ofZ w32 (c .args .z) (c .fits .z)
+-- a local holds its number's bits, which are read back as the number
+bits : (c : tie.Start) → toZ w32 (ofZ w32 (c .args .z)) ≡ c .args .z
+bits c = toZ-ofZ (c .fits .z)
 
-belowBy : (c : tie.Then1) → Flipped (c .before .args .z)
-belowBy c = flipped (c .before .args .z) (c .before .fits .z) (rw (bits-z (c .before)) at (c .if1 .taken))
+low : (c : tie.Then1) → let z = c .before .args .z in (n : ℕ) × (n < 2147483648) × (negsuc 0 -ℤ z ≡ pos n) × (4294967295 - n ≡ unsigned z)
+low c = negative (c .before .args .z) (c .before .fits .z) (rw (bits (c .before)) at (c .if1 .taken))
 
-above : (c : tie.Else1) → Kept (c .before .args .z)
-above c = kept (c .before .args .z) (c .before .fits .z) (rw (bits-z (c .before)) at (c .if1 .left))
-
-bits-flip : (c : tie.Then1) → toZ w32 (ofZ w32 (negsuc 0 -ℤ c .before .args .z)) ≡ negsuc 0 -ℤ c .before .args .z
-bits-flip c = toZ-ofZ w32 (negsuc 0 -ℤ c .before .args .z) (belowBy c .fits)
-
-sub-result : tie.Need-sub-result
-sub-result c = rw (bits-z (c .before)) (belowBy c .fits)
-
-cast-result : tie.Need-cast-result
-cast-result c = rw (bits-z (c .before), bits-flip c) (belowBy c .nonneg, record { fits = omega (arith, belowBy c .low) })
-
-sub-result-2 : tie.Need-sub-result-2
-sub-result-2 c = rw (bits-z (c .before), bits-flip c) (omega (arith, belowBy c .low))
-
-cast-result-2 : tie.Need-cast-result-2
-cast-result-2 c = rw (bits-z (c .before)) (above c .nonneg, record { fits = omega (arith, above c .low) })
+high : (c : tie.Else1) → let z = c .before .args .z in T (nonNeg z) × (natAbs z ≡ unsigned z)
+high c = natural (c .before .args .z) (rw (bits (c .before)) at (c .if1 .left))
 
 returns : tie.Need-returns
-returns c = rw (bits-z (c .before), bits-flip c) (belowBy c .bits)
+returns c = rw (bits (c .before), low c .2, toZ-pos w32 (low c .1)) (low c .3)
 
 returns-2 : tie.Need-returns-2
-returns-2 c = rw (bits-z (c .before)) (above c .bits)
+returns-2 c = rw (bits (c .before)) (high c .1)
 
 pub as-unsigned-spec : {M : Type 1} → statement M
 as-unsigned-spec =
-    tie.close (tie.spec sub-result cast-result sub-result-2 cast-result-2 returns returns-2)
+    tie.close
+    (tie.spec
+    (λ c. rw (bits (c .before), low c .2) (record { sfits = low c .1 }))
+    (λ c. rw (bits (c .before), low c .2, toZ-pos w32 (low c .1)) (tt, record { fits = omega (arith, low c .1) }))
+    (λ c. rw (bits (c .before), low c .2, toZ-pos w32 (low c .1)) (omega (arith, low c .1)))
+    (λ c. rw (bits (c .before)) (high c .0, fits-natAbs tt (c .before .fits .z)))
+    returns
+    returns-2)
