@@ -1,15 +1,15 @@
 -- Signed 32-bit numbers: their bits, and rounding. Each law is by the two signs; in each case the rest is arithmetic of naturals.
-use Prim.Native.Nat.{ℕ, zero, suc, _+_, _-_, _/_, _≤_, _<_}
+use Prim.Native.Nat.{ℕ, zero, suc, _+_, _-_, _/_, _%_, _≤_, _<_}
 use native.Mathlib.Omega.{arith}
 use mathlib.Core.Path.{_≡_, refl, ap}
 use mathlib.Core.Bool.{Bool, true, false, cond, true≢false}
-use borrow.Author.Tests.{ltb-true, ltb-false, le-ltb, not-true}
+use borrow.Author.Tests.{ltb-true, ltb-false, lt-ltb, le-ltb, not-true}
 use lib.Dec.{T, ltb}
 use lib.IntN.{ℤ, pos, negsuc, negℤ, natAbs, _+ℤ_, _-ℤ_}
-use lib.Signed.{mag, ltZ, nonNeg, quotZ}
+use lib.Signed.{mag, ltZ, nonNeg, quotZ, remZ}
 use mir.Syntax.{w32}
-use mir.Val.{toZ, ofZ, sel, SFits}
-use mir.ValLaws.{toZ-pos, toZ-ofZ, toZ-fits}
+use mir.Val.{toZ, sel, SFits}
+use mir.ValLaws.{toZ-pos, toZ-fits, sfits-le}
 use Rattle.surface.specs.SurveyFile.{signed, unsigned, isTenths, rounded}
 use Rattle.surface.proofs.General.Bools.{and-left}
 
@@ -45,32 +45,27 @@ unfolding unsigned
 natural (pos n) e = (tt, refl)
 natural (negsuc n) e = absurd (true≢false e)
 
--- ---- rounding
+-- ---- rounding: t and its remainder, divided toward zero
 
 mag-neg : (k : ℕ) → mag (negℤ (pos k)) ≤ k
 mag-neg zero = omega arith
 mag-neg (suc k) = omega arith
 
--- what a filed height t is rounded to: moved by a half away from zero and divided toward zero. (A local holds its number's bits.)
-pub record Halved (t far : ℤ) : Type 0 where
-  pub fits : SFits w32 far
-  pub quotFits : SFits w32 (quotZ (toZ w32 (ofZ w32 far)) (pos 10))
-  pub is : toZ w32 (ofZ w32 (quotZ (toZ w32 (ofZ w32 far)) (pos 10))) ≡ rounded t
+neg-more : (n k : ℕ) → negsuc n +ℤ negℤ (pos k) ≡ negsuc (n + k)
+neg-more n zero = rw (lt-ltb 0 (suc n) (omega arith)) (ap negsuc (omega arith))
+neg-more n (suc k) = ap negsuc (omega arith)
 
-halved : (t far : ℤ) → SFits w32 far → SFits w32 (quotZ far (pos 10)) → quotZ far (pos 10) ≡ rounded t → Halved t far
-halved t far f q e = record { fits = f; quotFits = rw (toZ-ofZ w32 far f) q; is = rw (toZ-ofZ w32 far f, toZ-ofZ w32 _ q) e }
+pub quot-fits : (t : ℤ) → SFits w32 t → SFits w32 (quotZ t (pos 10))
+quot-fits (pos n) f = sfits-le (omega arith) f
+quot-fits (negsuc n) f = record { sfits = omega (arith, f .sfits, mag-neg (suc n / 10)) }
 
-pub half-down : (t : ℤ) → isTenths t ≡ true → ltZ t (pos 0) ≡ true → Halved t (t -ℤ pos 5)
+pub far-fits : (t : ℤ) → isTenths t ≡ true → SFits w32 (t +ℤ remZ t (pos 10))
+far-fits (pos n) h = record { sfits = omega (arith, ltb-false 10000000 n (not-true _ h)) }
+far-fits (negsuc n) h = rw (neg-more n (suc n % 10)) (record { sfits = omega (arith, ltb-false 9999999 n (not-true _ (and-left _ _ h))) })
+
+pub rounded-is : (t : ℤ) → quotZ (t +ℤ remZ t (pos 10)) (pos 10) ≡ rounded t
 unfolding rounded
-half-down (pos n) h e = absurd (omega (arith, ltb-true n 0 e))
-half-down (negsuc n) h e =
-    let low = ltb-false 9999999 n (not-true _ (and-left _ _ h)) in
-    let k : suc (suc (n + 4)) ≡ n + 1 + 5 = omega arith in
-    halved _ _ (record { sfits = omega arith }) (record { sfits = omega (arith, mag-neg (suc (suc (n + 4)) / 10)) }) (rw k)
-
-pub half-up : (t : ℤ) → isTenths t ≡ true → ltZ t (pos 0) ≡ false → Halved t (t +ℤ pos 5)
-unfolding rounded
-half-up (negsuc n) h e = absurd (true≢false e)
-half-up (pos n) h e =
-    let low = ltb-false 10000000 n (not-true _ h) in
-    halved _ _ (record { sfits = omega arith }) (record { sfits = omega arith }) refl
+rounded-is (pos n) = ap pos (omega arith)
+rounded-is (negsuc n) =
+    let tens : suc (n + suc n % 10) / 10 ≡ (n + 1 + 5) / 10 = omega arith in
+    rw (neg-more n (suc n % 10), tens)

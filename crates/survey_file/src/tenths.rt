@@ -18,16 +18,13 @@ const LOWEST_FILED: i32 = -10000000;
 
 const HIGHEST_FILED: i32 = 10000000;
 
-// Tenths to whole millimetres, a half going away from zero: `/` goes toward zero. (With a division for each sign the compiler branches on it.)
+// Tenths to whole millimetres, a half going away from zero: `/` and `%` go toward zero, and the remainder has the sign of t. Adding the remainder reaches
+// the next ten exactly where it is a half or more, on either side of zero.
 pub(crate) fn round(t: i32) -> i32
     requires { ⌜ isTenths t ≡ true ⌝ }
     ensures { λ r. ⌜ r ≡ rounded t ⌝ }
 {
-    let mut half = 5;
-    if t < 0 {
-        half = -5;
-    }
-    (t + half) / 10
+    (t + t % 10) / 10
 }
 
 // Whether a filed height is in range.
