@@ -1,5 +1,6 @@
 -- Signed 32-bit numbers: their bits, and rounding. Each law is by the two signs; in each case the rest is arithmetic of naturals.
 use Prim.Native.Nat.{ℕ, zero, suc, _+_, _-_, _/_, _%_, _≤_, _<_}
+use native.Mathlib.Nat.{div-le-self, mod-le}
 use native.Mathlib.Omega.{arith}
 use mathlib.Core.Path.{_≡_, refl, ap}
 use mathlib.Core.Bool.{Bool, true, false, cond, true≢false}
@@ -47,21 +48,23 @@ natural (negsuc n) e = absurd (true≢false e)
 
 -- ---- rounding: t and its remainder, divided toward zero
 
-mag-neg : (k : ℕ) → mag (negℤ (pos k)) ≤ k
-mag-neg zero = omega arith
-mag-neg (suc k) = omega arith
+mag-neg : (k : ℕ) {n : ℕ} → k ≤ suc n → mag (negℤ (pos k)) ≤ n
+mag-neg zero h = omega arith
+mag-neg (suc k) h = omega arith
 
 neg-more : (n k : ℕ) → negsuc n +ℤ negℤ (pos k) ≡ negsuc (n + k)
 neg-more n zero = rw (lt-ltb 0 (suc n) (omega arith)) (ap negsuc (omega arith))
 neg-more n (suc k) = ap negsuc (omega arith)
 
-pub quot-fits : (t : ℤ) → SFits w32 t → SFits w32 (quotZ t (pos 10))
-quot-fits (pos n) f = sfits-le (omega arith) f
-quot-fits (negsuc n) f = record { sfits = omega (arith, f .sfits, mag-neg (suc n / 10)) }
+pub quot-fits : (t : ℤ) (d : ℕ) → SFits w32 t → SFits w32 (quotZ t (pos d))
+quot-fits (pos n) d f = sfits-le (div-le-self n d) f
+quot-fits (negsuc n) d f = sfits-le (mag-neg (suc n / d) (div-le-self (suc n) d)) f
 
-pub far-fits : (t : ℤ) → isTenths t ≡ true → SFits w32 (t +ℤ remZ t (pos 10))
-far-fits (pos n) h = record { sfits = omega (arith, ltb-false 10000000 n (not-true _ h)) }
-far-fits (negsuc n) h = rw (neg-more n (suc n % 10)) (record { sfits = omega (arith, ltb-false 9999999 n (not-true _ (and-left _ _ h))) })
+pub far-fits : (t : ℤ) (d : ℕ) → isTenths t ≡ true → SFits w32 (t +ℤ remZ t (pos d))
+far-fits (pos n) d h = record { sfits = omega (arith, ltb-false 10000000 n (not-true _ h), mod-le n d) }
+far-fits (negsuc n) d h =
+    let low = ltb-false 9999999 n (not-true _ (and-left _ _ h)) in
+    rw (neg-more n (suc n % d)) (record { sfits = omega (arith, low, mod-le (suc n) d) })
 
 pub rounded-is : (t : ℤ) → quotZ (t +ℤ remZ t (pos 10)) (pos 10) ≡ rounded t
 unfolding rounded
