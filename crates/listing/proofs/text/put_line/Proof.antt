@@ -1,6 +1,6 @@
--- `listing::text::put_line` meets its contract: the pieces, one after the other, are the line.
+-- The pieces, one after the other, are the line.
 use native.Mathlib.Omega.{arith}
-use Rattle.surface.specs.Lister.{fields, textLine}
+use Rattle.surface.specs.Lister.{textLine, fields}
 use Rattle.listing.proofs.Writing.{more, within}
 use borrow.Author.Needs.{needs}
 use Rattle.listing.proofs.text.put_line.Statement.{statement}
@@ -26,22 +26,7 @@ same-length c = search needs
 
 returns : tie.Need-returns
 unfolding textLine fields
-returns c =
-    let c4 = c .before .before in
-    let c3 = c4 .before .before .before .before in
-    let c2 = c3 .before .before .before .before in
-    let c1 = c2 .before .before .before .before in
-    let c0 = c1 .before .before .before .before in
-    within (omega arith) (more (c0 .put-byte .ensures) (more (c1 .put-field .ensures) (more (c2 .put-field2 .ensures) (more (c3 .put-end .ensures) (c4 .put-byte2 .ensures)))))
+returns c = within (omega arith) (more (c .before .before .before .before .before .before .before .before .before .before .before .before .before .before .before .before .before .before .put-byte .ensures) (more (c .before .before .before .before .before .before .before .before .before .before .before .before .before .before .put-field .ensures) (more (c .before .before .before .before .before .before .before .before .before .before .put-field2 .ensures) (more (c .before .before .before .before .before .before .put-end .ensures) (c .before .before .put-byte2 .ensures)))))
 
 pub put-line-spec : {M : Type 1} → statement M
-put-line-spec =
-    tie.close
-    (tie.spec
-    put-byte-requires
-    put-field-requires
-    put-field-requires-2
-    put-end-requires
-    put-byte-requires-2
-    same-length
-    returns)
+put-line-spec = tie.close (tie.spec put-byte-requires put-field-requires put-field-requires-2 put-end-requires put-byte-requires-2 same-length returns)
