@@ -55,7 +55,8 @@ module _ (pl : Plot) (d : Descent) (post run : ℕ) (list : List ℕ) where
   abbrev lineRows : List Row
   lineRows = row7 pl post ∷ row8 d post run ∷ row9 entries list ∷ []
 
-  pub no-post : (a : Answer) → a ≡ verdict (postRows pl post) → (a .code ≡ 0 → ⊥) → Outcome (record { code = a .code; place = a .place; count = 0 }) list
+  pub no-post : (a : Answer) → a ≡ verdict (postRows pl post) → (a .code ≡ 0 → ⊥)
+      → Outcome (record { code = a .code; place = a .place; count = 0 }) list
   unfolding lineVerdict
   no-post a e h = refused (a .code) (a .place) h (leads-refused (postRows pl post) lineRows tt (λ k. h (ap (λ (x : Answer). x .code) e ∙ k)) ∙ sym e)
 
@@ -94,11 +95,13 @@ module _ (pl : Plot) (d : Descent) (post run : ℕ) (list : List ℕ) where
 
         pub drawn : length way < length list → Outcome (record { code = 0; place = 0; count = length (post ∷ way) }) (sets list 0 (post ∷ way))
         drawn h =
-            let e : lineVerdict pl d post run list ≡ accepted = past-8 ∙ row-passed _ _ (le-ltb (length list) (length entries) (omega (arith, long))) ∙ none-left in
+            let e : lineVerdict pl d post run list ≡ accepted =
+            past-8 ∙ row-passed _ _ (le-ltb (length list) (length entries) (omega (arith, long))) ∙ none-left in
             (rw (e, is-line), rw (e, is-line) (rw zero-add at (sets-eq (post ∷ way) list 0 (omega (arith, long)))))
 
 -- where the line of a run goes to is a vertex, and its walk has at most as many entries as there are posts
-module _ {n : ℕ} {d : Descent} (law : Falling n d) {post run q : ℕ} (h : post < n) (has : run < length (runsOf d post)) (goes : q ≡ lineStart d post run) where
+module _ {n : ℕ} {d : Descent} (law : Falling n d) {post run q : ℕ} (h : post < n) (has : run < length (runsOf d post))
+    (goes : q ≡ lineStart d post run) where
   pub start-vertex : Vertex n q
   start-vertex =
       let r = runs-run (λ q. d .lower q post) (d .ring post) run has in

@@ -2,14 +2,14 @@
 use Prim.Native.Nat.{ℕ, zero, suc, _+_, _-_, _≤_, _<_}
 use native.Mathlib.Omega.{arith}
 use mathlib.Core.Path.{_≡_, refl, sym, _∙_, ap}
-use mathlib.Core.Bool.{Bool, true, false, true≢false}
+use mathlib.Core.Bool.{Bool, true, false, cond, true≢false}
 use mathlib.Core.List.{List, [], _∷_, _++_, List·Memᴰ, List·Memᴰ·head, List·Memᴰ·tail}
 use borrow.Author.Tests.{ltb-true, ltb-false, lt-ltb, le-ltb, not-true}
 use lib.Dec.{ltb}
 use lib.ListN.{length, getD, length-append}
 use Rattle.surface.specs.Lists.{any, all}
 use Rattle.surface.specs.Plot.{Plot, posts, Vertex, below}
-use Rattle.surface.specs.Edges.{lowerOf, lowest, fallsIn, ringOf}
+use Rattle.surface.specs.Edges.{lowest, fallsIn, ringOf}
 use Rattle.surface.specs.Marks.{markFor, mark, markAt}
 use Rattle.surface.specs.Lines.{toward}
 use Rattle.surface.proofs.General.Bools.{either}
@@ -19,7 +19,7 @@ use Rattle.surface.proofs.AnyOrder.Walks.{Falling}
 use Rattle.surface.proofs.OfPlots.Instance.{toward-falling}
 use Rattle.post.specs.declared.ring.Ring.{Ring}
 use Rattle.post.specs.Rings.{held}
-use Rattle.lines.specs.Runs.{Saddle, runFrom, StartsAt, Starts}
+use Rattle.lines.specs.Runs.{Saddle, StartsAt, lowestFrom, Starts}
 use Rattle.lines.proofs.Running.{getD-front, getD-back}
 
 -- down and up differ in their order alone
@@ -51,8 +51,9 @@ unfolding all
 all-some s [] h = absurd (true≢false h)
 all-some s (x ∷ l) h = omega arith
 
-pub lower-vertex : (lower : ℕ → ℕ → Bool) {n : ℕ} (x y : ℕ) → Vertex n x → Vertex n y → Vertex n (lowerOf lower x y)
-lower-vertex lower x y v w = either (lower y x) (λ e. rw e w) (λ e. rw e v)
+pub chosen-vertex : (b : Bool) {n x y : ℕ} → Vertex n x → Vertex n y → Vertex n (cond b y x)
+chosen-vertex true v w = w
+chosen-vertex false v w = v
 
 module _ {pl : Plot} {p : ℕ} {r : Ring} (z : Saddle pl p r) where
   pub long : length (held r) ≡ r .len
@@ -77,8 +78,10 @@ module _ {pl : Plot} {p : ℕ} {r : Ring} (z : Saddle pl p r) where
     unfolding ringOf
     mixed =
         rw (z .holds .members)
-        (not-true _
-        (sym (any-above (toward up pl .lower) (law .order) p (ringOf pl p) (λ q m. ring-other (z .post .valid .sides) (fallsIn pl) p q (z .post .post) m)) ∙ above))
+        (not-true _ (sym (any-above (toward up pl .lower) (law .order) p (ringOf pl p) others) ∙ above))
+      where
+        others : (q : ℕ) → List·Memᴰ q (ringOf pl p) → q ≡ p → ⊥
+        others q = ring-other (z .post .valid .sides) (fallsIn pl) p q (z .post .post)
 
   pub some : 0 < r .len
   some = omega (arith, long, all-some _ (held r) (mixed true))
@@ -109,11 +112,13 @@ module _ {pl : Plot} {p : ℕ} {r : Ring} (z : Saddle pl p r) where
           post = λ e. absurd (true≢false (sym e));
         }
 
-    pub starts-run : place < r .len → (q : ℕ) → q ≡ lowest (toward up pl .lower) (runFrom (λ q. toward up pl .lower q p) (held r) place)
+    pub starts-run : place < r .len → (q : ℕ) → q ≡ lowestFrom (toward up pl) p (held r) place
         → Starts (toward up pl) p run (record { found = true; post = q })
     starts-run h q e =
         record {
           found = rw (toward-ring pl up p, ← (z .holds .members)) (sym (k .there ∙ lt-ltb place _ (omega (arith, long))));
           post =
-              λ _. e ∙ rw (toward-pick pl up p, toward-ring pl up p, ← (z .holds .members)) (ap (lowest (toward up pl .lower)) (sym (k .run (omega (arith, long)))));
+              λ _.
+              let this = sym (k .run (omega (arith, long))) in
+              e ∙ rw (toward-pick pl up p, toward-ring pl up p, ← (z .holds .members)) (ap (lowest (toward up pl .lower)) this);
         }

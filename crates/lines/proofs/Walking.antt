@@ -44,7 +44,8 @@ module _ {pl : Plot} {at : Walk} (w : WalkOf pl at) where
   stays h =
       either (isEnd d (at .post)) (λ e. e)
       (λ e.
-      absurd (true≢false (sym (next-step law (at .post) (w .vertex) e .falls) ∙ ap (λ (q : ℕ). d .lower q (at .post)) h ∙ law .order .irrefl (at .post))))
+      let falls = next-step law (at .post) (w .vertex) e .falls in
+      absurd (true≢false (sym falls ∙ ap (λ (q : ℕ). d .lower q (at .post)) h ∙ law .order .irrefl (at .post))))
 
   moves : (next d (at .post) ≡ at .post → ⊥) → isEnd d (at .post) ≡ false
   moves h = either (isEnd d (at .post)) (λ e. absurd (h (next-stop law (at .post) e))) (λ e. e)

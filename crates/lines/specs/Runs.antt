@@ -7,7 +7,7 @@ use lib.Dec.{ltb}
 use lib.ListN.{length, getD, drop}
 use Rattle.surface.specs.Lists.{takeWhile}
 use Rattle.surface.specs.Plot.{Plot, PostOf}
-use Rattle.surface.specs.Edges.{runs, ringOf}
+use Rattle.surface.specs.Edges.{lowest, runs, ringOf}
 use Rattle.surface.specs.Marks.{markAt}
 use Rattle.surface.specs.Lines.{Descent, toward, runsOf, lineStart}
 use Rattle.post.specs.declared.ring.Ring.{Ring}
@@ -36,6 +36,10 @@ module _ (s : ℕ → Bool) (ring : List ℕ) where
     pub there : ltb j (length (runs s ring)) ≡ ltb i (length ring)
     pub passes : i < length ring → s (getD ring i 0) ≡ true
     pub run : i < length ring → getD (runs s ring) j [] ≡ runFrom i
+
+-- the lowest member of the run of p that starts at place i
+abbrev pub lowestFrom : Descent → ℕ → List ℕ → ℕ → ℕ
+lowestFrom d p ring i = lowest (d .lower) (runFrom (λ q. d .lower q p) ring i)
 
 -- whether there is such a run, and where its line goes to
 pub record Starts (d : Descent) (p run : ℕ) (r : Start) : Type 0 where

@@ -10,16 +10,16 @@ use surface::Grid;
 use surface::SADDLE;
 ghost use mathlib.Core.Path.{_≡_};
 ghost use mathlib.Core.List.{_∷_};
-ghost use Prim.Native.Nat.{_≤_, _<_};
+ghost use Prim.Native.Nat.{_≤_};
 ghost use lib.Dec.{ltb};
 ghost use lib.ListN.{length};
 ghost use lib.Seq.{sets};
 ghost use Rattle.surface.specs.Plot.{plot, plotOf, posts};
 ghost use Rattle.surface.specs.Lines.{toward};
 ghost use Rattle.surface.specs.Calls.{lineAnswer, lineList};
-ghost use Rattle.lines.specs.Walks.{WalkOf, path};
+ghost use Rattle.lines.specs.Walks.{WalkOf, HasRoom, path};
 
-// Whether a list of length `room` takes a saddle and the posts of a walk. A list longer than the heights takes every line, so that nothing is counted.
+// Whether a list of length `room` takes a saddle and a walk's posts. A list longer than the heights takes every line, so that nothing is counted.
 fn has_room(heights: &[i32], grid: Grid, from: Walk, room: usize) -> bool
     requires { ⌜ WalkOf (plotOf grid (now heights)) from × (length (path (plotOf grid (now heights)) from) ≤ posts (plotOf grid (now heights))) ⌝ }
     ensures { λ r. ⌜ r ≡ ltb (length (path (plotOf grid (now (heights .entry))) from)) room ⌝ }
@@ -32,7 +32,7 @@ fn has_room(heights: &[i32], grid: Grid, from: Walk, room: usize) -> bool
 
 // Writes p, and then the posts of a walk until its end; gives how many entries that is.
 fn write_entries(heights: &[i32], grid: Grid, p: usize, from: Walk, line: &mut [u16]) -> usize
-    requires { ⌜ WalkOf (plotOf grid (now heights)) from × (p < posts (plotOf grid (now heights))) × (length (path (plotOf grid (now heights)) from) < length (now line)) ⌝ }
+    requires { ⌜ HasRoom (plotOf grid (now heights)) p from (now line) ⌝ }
     ensures { λ r. ⌜ r ≡ length (p ∷ path (plotOf grid (now (heights .entry))) from) ⌝ }
     ensures { λ _. ⌜ now (line .exit) ≡ sets (now (line .entry)) 0 (p ∷ path (plotOf grid (now (heights .entry))) from) ⌝ }
 {

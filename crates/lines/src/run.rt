@@ -8,10 +8,9 @@ ghost use mathlib.Core.List.{_++_};
 ghost use Prim.Native.Nat.{_+_, _≤_, _<_};
 ghost use lib.ListN.{length, getD};
 ghost use Rattle.surface.specs.Plot.{plotOf};
-ghost use Rattle.surface.specs.Edges.{lowest};
 ghost use Rattle.surface.specs.Lines.{toward};
 ghost use Rattle.post.specs.Rings.{held};
-ghost use Rattle.lines.specs.Runs.{Saddle, InRun, runFrom, StartsAt, Starts};
+ghost use Rattle.lines.specs.Runs.{Saddle, InRun, StartsAt, lowestFrom, Starts};
 
 // Where the line of a saddle and a run goes to from the saddle; not found where the saddle has no such run.
 pub struct Start {
@@ -57,7 +56,7 @@ fn run_at(heights: &[i32], grid: Grid, up: bool, p: usize, ring: Ring, run: u32)
 // The lowest member of the run of p that starts at place i, the highest where `up`.
 fn lowest_from(heights: &[i32], grid: Grid, up: bool, p: usize, ring: Ring, i: usize) -> usize
     requires { ⌜ InRun (plotOf grid (now heights)) up p ring i ⌝ }
-    ensures { λ r. ⌜ r ≡ lowest (toward up (plotOf grid (now (heights .entry))) .lower) (runFrom (λ q. toward up (plotOf grid (now (heights .entry))) .lower q p) (held ring) i) ⌝ }
+    ensures { λ r. ⌜ r ≡ lowestFrom (toward up (plotOf grid (now (heights .entry)))) p (held ring) i ⌝ }
 {
     let twice = ring.len + ring.len;
     let mut best = member_at(ring, i);

@@ -35,9 +35,11 @@ next-at-requires c κs = post c
 
 cast-t11 : tie.Need-cast-t11
 cast-t11 c =
+    let at-start = c .before .before .before .before in
     let valid = post (c .before) in
-    let a = c .before .before .before .before .args in
-    omega (arith, c .next-at .ensures, vertex-low (valid .valid .sides) (next-vertex (toward-falling (asked (c .before)) (valid .valid .sides) (a .up)) (a .post) (inl (valid .post))))
+    let a = at-start .args in
+    let law = toward-falling (asked (c .before)) (valid .valid .sides) (a .up) in
+    omega (arith, c .next-at .ensures, vertex-low (valid .valid .sides) (next-vertex law (a .post) (inl (valid .post))))
 
 returns-2 : tie.Need-returns-2
 unfolding nextVerdict

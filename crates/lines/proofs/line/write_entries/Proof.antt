@@ -39,19 +39,19 @@ kept l =
     ∙ length-set (a .line .now) 0 (a .p)
 
 room : (l : tie.At-loop Inv-loop μ-loop) → (l .loop .i < length (l .loop .line)) × (l .loop .i ≤ maxPosts + 1)
-room l = let s = l .before .before in omega (arith, kept l, s .pre .2, along-low (l .loop .inv .0) (s .pre .0))
+room l = let s = l .before .before in omega (arith, kept l, s .pre .room, along-low (l .loop .inv .0) (s .pre .walk))
 
 fits : (l : tie.At-loop Inv-loop μ-loop) → l .loop .at .post < 65536
 fits l = let w = l .loop .inv .0 .stands in vertex-low (w .valid .sides) (w .vertex)
 
 cast-line : tie.Need-cast-line Inv-loop μ-loop
-cast-line c = omega (arith, c .before .pre .1, c .before .pre .0 .valid .sides)
+cast-line c = omega (arith, c .before .pre .post, c .before .pre .walk .valid .sides)
 
 slice-write-line : tie.Need-slice-write-line Inv-loop μ-loop
-slice-write-line c = omega (arith, c .before .pre .2)
+slice-write-line c = omega (arith, c .before .pre .room)
 
 loop-holds : tie.Need-loop-holds Inv-loop μ-loop
-loop-holds c = (along-none (c .before .pre .0), refl)
+loop-holds c = (along-none (c .before .pre .walk), refl)
 
 next-requires : tie.Need-next-requires Inv-loop μ-loop
 next-requires c κs = c .loop .inv .0 .stands
@@ -89,7 +89,9 @@ add-result : tie.Need-add-result Inv-loop μ-loop
 add-result c = omega (arith, room (c .before .before .before))
 
 same-length : tie.Need-same-length Inv-loop μ-loop
-same-length c = length-set (c .before .before .before .loop .line) (c .before .before .before .loop .i) (c .before .before .before .loop .at .post) ∙ kept (c .before .before .before)
+same-length c =
+    let at-loop = c .before .before .before in
+    let l = at-loop .loop in length-set (l .line) (l .i) (l .at .post) ∙ kept at-loop
 
 returns : tie.Need-returns Inv-loop μ-loop
 returns c =
@@ -98,4 +100,7 @@ returns c =
     (omega (arith, along-end (v .0) e), rw (path-end (v .0 .stands) e) at (v .1))
 
 pub write-entries-spec : {M : Type 1} → statement M
-write-entries-spec = tie.close (tie.spec Inv-loop μ-loop cast-line slice-write-line loop-holds next-requires cast-line-2 mul-line slice-write-line-2 add-i loop-less loop-again cast-line-3 mul-line-2 slice-write-line-3 add-result same-length returns)
+write-entries-spec =
+    tie.close
+    (tie.spec Inv-loop μ-loop cast-line slice-write-line loop-holds next-requires cast-line-2 mul-line slice-write-line-2 add-i loop-less
+    loop-again cast-line-3 mul-line-2 slice-write-line-3 add-result same-length returns)

@@ -9,13 +9,19 @@ run-at-requires : tie.Need-run-at-requires
 run-at-requires c κs = search needs
 
 returns : tie.Need-returns
-returns c = starts-none (c .before .before .before .pre) (c .before .before .before .args .up) (c .before .before .run-at .ensures) (c .if1 .taken)
+returns c =
+    let at-start = c .before .before .before in
+    starts-none (at-start .pre) (at-start .args .up) (c .before .before .run-at .ensures) (c .if1 .taken)
 
 lowest-from-requires : tie.Need-lowest-from-requires
-lowest-from-requires c κs = record { saddle = c .before .before .before .pre; place = c .if1 .left; lower = c .before .before .run-at .ensures .passes (omega (arith, long (c .before .before .before .pre), c .if1 .left)) }
+lowest-from-requires c κs =
+    let z = c .before .before .before .pre in
+    record { saddle = z; place = c .if1 .left; lower = c .before .before .run-at .ensures .passes (omega (arith, long z, c .if1 .left)) }
 
 returns-2 : tie.Need-returns-2
-returns-2 c = starts-run (c .before .before .before .before .pre) (c .before .before .before .before .args .up) (c .before .before .before .run-at .ensures) (c .before .if1 .left) _ (c .lowest-from .ensures)
+returns-2 c =
+    let at-start = c .before .before .before .before in
+    starts-run (at-start .pre) (at-start .args .up) (c .before .before .before .run-at .ensures) (c .before .if1 .left) _ (c .lowest-from .ensures)
 
 pub line-start-spec : {M : Type 1} → statement M
 line-start-spec = tie.close (tie.spec run-at-requires returns lowest-from-requires returns-2)

@@ -8,12 +8,12 @@ use mathlib.Core.List.{_++_}
 use borrow.Author.Tests.{not-true, not-false}
 use lib.ListN.{length, getD}
 use Rattle.surface.specs.Plot.{plotOf, posts, Vertex}
-use Rattle.surface.specs.Edges.{lowest, lowestOr}
+use Rattle.surface.specs.Edges.{lowestOr}
 use Rattle.surface.specs.Lines.{toward}
 use Rattle.post.specs.Rings.{held}
-use Rattle.lines.specs.Runs.{runFrom}
+use Rattle.lines.specs.Runs.{runFrom, lowestFrom}
 use Rattle.lines.proofs.Running.{while-stop, while-end, getD-front, low-first, low-more, low-none}
-use Rattle.lines.proofs.Ringed.{lower-vertex, long, twice-long, twice-vertex}
+use Rattle.lines.proofs.Ringed.{chosen-vertex, long, twice-long, twice-vertex}
 use Rattle.lines.proofs.run.lowest_from.Statement.{statement}
 use Rattle.lines.proofs.run.lowest_from.Tie as tie
 
@@ -22,8 +22,8 @@ Inv-loop heights grid up p ring i twice best₀ j₀ best j =
     let lower = toward up (plotOf grid heights) .lower in
     (i < j)
     × (j ≤ twice)
+    × (lowestOr lower best (runFrom (λ q. lower q p) (held ring) j) ≡ lowestFrom (toward up (plotOf grid heights)) p (held ring) i)
     × Vertex (posts (plotOf grid heights)) best
-    × (lowestOr lower best (runFrom (λ q. lower q p) (held ring) j) ≡ lowest lower (runFrom (λ q. lower q p) (held ring) i))
 
 abbrev μ-loop : tie.MeasureT-loop
 μ-loop heights grid up p ring i twice best₀ j₀ best j = twice - j
@@ -34,11 +34,14 @@ inside c = omega (arith, twice-long (c .before .before .before .before .pre .sad
 
 member : (c : tie.After-member-at2 Inv-loop μ-loop)
     → let a = c .before .before .before .before .before .args in Vertex (posts (plotOf (a .grid) (a .heights .now))) (c .member-at2 .result)
-member c = rw (c .member-at2 .ensures) (twice-vertex (c .before .before .before .before .before .pre .saddle) (c .before .before .loop .j) (c .before .loop-test .taken))
+member c =
+    let z = c .before .before .before .before .before .pre .saddle in
+    rw (c .member-at2 .ensures) (twice-vertex z (c .before .before .loop .j) (c .before .loop-test .taken))
 
 low : {b : Bool} (c : tie.After-is-lower Inv-loop μ-loop) → c .is-lower .result ≡ b
     → let a = c .before .before .before .before .before .before .args in
-    toward (a .up) (plotOf (a .grid) (a .heights .now)) .lower (getD (held (a .ring) ++ held (a .ring)) (c .before .before .before .loop .j) 0) (a .p) ≡ b
+    let q = getD (held (a .ring) ++ held (a .ring)) (c .before .before .before .loop .j) 0 in
+    toward (a .up) (plotOf (a .grid) (a .heights .now)) .lower q (a .p) ≡ b
 low c e = rw (← (c .before .member-at2 .ensures)) (sym (c .is-lower .ensures) ∙ e)
 
 add-twice : tie.Need-add-twice Inv-loop μ-loop
@@ -59,43 +62,64 @@ loop-holds c =
     let h : i < length (r ++ r) = omega (arith, twice-long z, s .pre .place) in
     let e : getD (r ++ r) i 0 ≡ getD r i 0 = getD-front r r i (omega (arith, long z, s .pre .place)) in
     rw (c .member-at .ensures)
-    (omega arith, omega (arith, s .pre .place), twice-vertex z i (omega (arith, s .pre .place)), low-first _ _ (r ++ r) i h (rw e (s .pre .lower)))
+    (omega arith, omega (arith, s .pre .place), low-first _ _ (r ++ r) i h (rw e (s .pre .lower)), twice-vertex z i (omega (arith, s .pre .place)))
 
 member-at-requires-2 : tie.Need-member-at-requires-2 Inv-loop μ-loop
-member-at-requires-2 c κs = let h = c .before .before .before .before .pre .saddle .holds in (h .low, h .size, c .loop-test .taken)
+member-at-requires-2 c κs =
+    let at-start = c .before .before .before .before in
+    let h = at-start .pre .saddle .holds in (h .low, h .size, c .loop-test .taken)
 
 is-lower-requires : tie.Need-is-lower-requires Inv-loop μ-loop
-is-lower-requires c κs = let z = c .before .before .before .before .before .pre .saddle in (z .post .valid, member (c), inl (z .post .post))
+is-lower-requires c κs =
+    let at-start = c .before .before .before .before .before in
+    let z = at-start .pre .saddle in (z .post .valid, member c, inl (z .post .post))
 
 returns : tie.Need-returns Inv-loop μ-loop
 returns c =
-    let l = c .before .before .before .before in
-    low-none _ _ _ (l .loop .best) (l .loop .j) (while-stop _ _ (l .loop .j) (inside (c .before .before .before)) (low (c .before) (not-true _ (c .if1 .taken)))) ∙ l .loop .inv .3
+    let at-loop = c .before .before .before .before in
+    let l = at-loop in
+    low-none _ _ _ (l .loop .best) (l .loop .j) (while-stop _ _ (l .loop .j) (inside (c .before .before .before)) (low (c .before) (not-true _ (c .if1 .taken))))
+    ∙ l .loop .inv .2
 
 lower-of-requires : tie.Need-lower-of-requires Inv-loop μ-loop
-lower-of-requires c κs = (c .before .before .before .before .before .before .before .pre .saddle .post .valid, c .before .before .before .before .loop .inv .2, member (c .before .before))
+lower-of-requires c κs =
+    let at-loop = c .before .before .before .before in
+    let at-start = at-loop .before .before .before in
+    (at-start .pre .saddle .post .valid, at-loop .loop .inv .3, member (c .before .before))
 
 add-j-2 : tie.Need-add-j-2 Inv-loop μ-loop
-add-j-2 c = omega (arith, c .before .before .before .before .before .before .before .before .pre .saddle .holds .low)
+add-j-2 c =
+    let at-start = c .before .before .before .before .before .before .before .before in
+    omega (arith, at-start .pre .saddle .holds .low)
 
 loop-less : tie.Need-loop-less Inv-loop μ-loop
 loop-less c = omega arith
 
 loop-again : tie.Need-loop-again Inv-loop μ-loop
 loop-again c =
-    let l = c .before .before .before .before .before .loop in
-    let a = c .before .before .before .before .before .before .before .before .args in
+    let at-member-at2 = c .before .before .before in
+    let at-in-loop = at-member-at2 .before in
+    let at-loop = at-in-loop .before in
+    let at-start = at-loop .before .before .before in
+    let l = at-loop .loop in
+    let a = at-start .args in
+    let lower = toward (a .up) (plotOf (a .grid) (a .heights .now)) .lower in
     rw (c .lower-of .ensures) (
       omega arith,
       omega arith,
-      lower-vertex (toward (a .up) (plotOf (a .grid) (a .heights .now)) .lower) (l .best) (c .before .before .before .member-at2 .result) (l .inv .2) (member (c .before .before .before)),
-      rw (c .before .before .before .member-at2 .ensures) (low-more _ _ _ (l .best) (l .j) (inside (c .before .before .before .before)) (low (c .before .before) (not-false _ (c .before .if1 .left))) ∙ l .inv .3),
+      rw (at-member-at2 .member-at2 .ensures)
+          (low-more _ _ _ (l .best) (l .j) (inside at-in-loop) (low (c .before .before) (not-false _ (c .before .if1 .left))) ∙ l .inv .2),
+      chosen-vertex (lower (at-member-at2 .member-at2 .result) (l .best)) (l .inv .3) (member at-member-at2),
     )
 
 returns-2 : tie.Need-returns-2 Inv-loop μ-loop
 returns-2 c =
+    let at-start = c .before .before .before .before in
     let l = c .before .loop in
-    low-none _ _ _ (l .best) (l .j) (while-end _ _ (l .j) (omega (arith, twice-long (c .before .before .before .before .pre .saddle)))) ∙ l .inv .3
+    low-none _ _ _ (l .best) (l .j) (while-end _ _ (l .j) (omega (arith, twice-long (at-start .pre .saddle)))) ∙ l .inv .2
 
 pub lowest-from-spec : {M : Type 1} → statement M
-lowest-from-spec = tie.close (tie.spec Inv-loop μ-loop add-twice member-at-requires add-j loop-holds member-at-requires-2 is-lower-requires returns lower-of-requires add-j-2 loop-less loop-again returns-2)
+lowest-from-spec =
+    tie.close
+    (tie.spec Inv-loop μ-loop add-twice member-at-requires add-j loop-holds member-at-requires-2 is-lower-requires returns lower-of-requires
+    add-j-2 loop-less loop-again returns-2)

@@ -33,7 +33,9 @@ returns-2 c =
     let s = c .before .before in
     let r = s .args .ring in
     let n = length-take-le (r .len) (r .members) (omega (arith, s .pre)) in
-    sym (getD-back (held r) (held r) (s .args .j) (omega arith) ∙ rw n (getD-take (r .len) (r .members) (s .args .j - r .len) 0 (omega (arith, s .pre .2, c .if1 .left))))
+    sym
+    (getD-back (held r) (held r) (s .args .j) (omega arith)
+    ∙ rw n (getD-take (r .len) (r .members) (s .args .j - r .len) 0 (omega (arith, s .pre .2, c .if1 .left))))
 
 pub member-at-spec : {M : Type 1} → statement M
 member-at-spec = tie.close (tie.spec mul-result array-read-result returns mul-result-2 array-read-result-2 returns-2)

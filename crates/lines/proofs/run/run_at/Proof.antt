@@ -29,17 +29,19 @@ inside c = omega (arith, long (c .before .before .before .before .pre), c .loop-
 -- what the comparison told
 side : (c : tie.After-is-lower2 Inv-loop μ-loop)
     → let a = c .before .before .before .before .before .before .args in
-    c .is-lower2 .result ≡ toward (a .up) (plotOf (a .grid) (a .heights .now)) .lower (getD (held (a .ring)) (c .before .before .before .loop .i) 0) (a .p)
+    let q = getD (held (a .ring)) (c .before .before .before .loop .i) 0 in
+    c .is-lower2 .result ≡ toward (a .up) (plotOf (a .grid) (a .heights .now)) .lower q (a .p)
 side c =
-    let r = c .before .before .before .before .before .before .args .ring in
-    c .is-lower2 .ensures ∙ rw (c .before .member-at2 .ensures, getD-front (held r) (held r) (c .before .before .before .loop .i) (inside (c .before .before)))
+    let r = held (c .before .before .before .before .before .before .args .ring) in
+    c .is-lower2 .ensures ∙ rw (c .before .member-at2 .ensures, getD-front r r (c .before .before .before .loop .i) (inside (c .before .before)))
 
 more : (c : tie.Else1 Inv-loop μ-loop)
     → let l = c .before .before .before .before in
     let a = l .before .before .before .args in
     let low : ℕ → Bool = λ q. toward (a .up) (plotOf (a .grid) (a .heights .now)) .lower q (a .p) in
     let starts : Bool = low (getD (held (a .ring)) (l .loop .i) 0) && not (l .loop .before) in
-    Seek low (held (a .ring)) (a .run) (l .loop .i + 1) (low (getD (held (a .ring)) (l .loop .i) 0)) (l .loop .left - boolByte starts) × (boolByte starts ≤ l .loop .left)
+    Seek low (held (a .ring)) (a .run) (l .loop .i + 1) (low (getD (held (a .ring)) (l .loop .i) 0)) (l .loop .left - boolByte starts)
+    × (boolByte starts ≤ l .loop .left)
 more c = seek-more _ (inside (c .before .before .before)) (c .before .before .before .before .loop .inv .1) (rw (side (c .before)) at (c .if1 .left))
 
 sub-member-at : tie.Need-sub-member-at Inv-loop μ-loop
@@ -58,19 +60,27 @@ loop-holds c =
     let s = c .before .before in
     let z = s .pre in
     let r = s .args .ring in
-    let e : getD (held r ++ held r) (r .len - 1) 0 ≡ getD (held r) (length (held r) - 1) 0 = getD-front (held r) (held r) (r .len - 1) (omega (arith, long z, some z)) ∙ rw (long z) in
-    (omega arith, rw (c .is-lower .ensures, c .before .member-at .ensures, e) (seek-none _ (held r) (s .args .run) (omega (arith, long z, some z)) (mixed z (s .args .up))))
+    let e : getD (held r ++ held r) (r .len - 1) 0 ≡ getD (held r) (length (held r) - 1) 0 =
+    getD-front (held r) (held r) (r .len - 1) (omega (arith, long z, some z)) ∙ rw (long z) in (
+      omega arith,
+      rw (c .is-lower .ensures, c .before .member-at .ensures, e) (seek-none _ (held r) (s .args .run) (omega (arith, long z, some z)) (mixed z (s .args .up))),
+    )
 
 member-at-requires-2 : tie.Need-member-at-requires-2 Inv-loop μ-loop
-member-at-requires-2 c κs = let h = c .before .before .before .before .pre .holds in (h .low, h .size, omega arith)
+member-at-requires-2 c κs =
+    let at-start = c .before .before .before .before in
+    let h = at-start .pre .holds in (h .low, h .size, omega arith)
 
 is-lower-requires-2 : tie.Need-is-lower-requires-2 Inv-loop μ-loop
 is-lower-requires-2 c κs =
-    let z = c .before .before .before .before .before .pre in
+    let at-start = c .before .before .before .before .before in
+    let z = at-start .pre in
     (z .post .valid, rw (c .member-at2 .ensures) (twice-vertex z (c .before .before .loop .i) (omega arith)), inl (z .post .post))
 
 returns : tie.Need-returns Inv-loop μ-loop
-returns c = seek-found _ (inside (c .before .before .before)) (c .before .before .before .before .loop .inv .1) (rw (side (c .before)) at (c .if1 .taken))
+returns c =
+    let at-loop = c .before .before .before .before in
+    seek-found _ (inside (c .before .before .before)) (at-loop .loop .inv .1) (rw (side (c .before)) at (c .if1 .taken))
 
 cast-left : tie.Need-cast-left Inv-loop μ-loop
 cast-left c = search needs
@@ -79,7 +89,9 @@ sub-left : tie.Need-sub-left Inv-loop μ-loop
 sub-left c = rw (side (c .before)) (more c .1)
 
 add-i : tie.Need-add-i Inv-loop μ-loop
-add-i c = omega (arith, c .before .before .before .before .before .before .before .pre .holds .low)
+add-i c =
+    let at-start = c .before .before .before .before .before .before .before in
+    omega (arith, at-start .pre .holds .low)
 
 loop-less : tie.Need-loop-less Inv-loop μ-loop
 loop-less c = omega arith
@@ -88,7 +100,12 @@ loop-again : tie.Need-loop-again Inv-loop μ-loop
 loop-again c = (omega arith, rw (side (c .before)) (more c .0))
 
 returns-2 : tie.Need-returns-2 Inv-loop μ-loop
-returns-2 c = seek-end _ (omega (arith, long (c .before .before .before .before .pre))) (c .before .loop .inv .1)
+returns-2 c =
+    let at-start = c .before .before .before .before in
+    seek-end _ (omega (arith, long (at-start .pre))) (c .before .loop .inv .1)
 
 pub run-at-spec : {M : Type 1} → statement M
-run-at-spec = tie.close (tie.spec Inv-loop μ-loop sub-member-at member-at-requires is-lower-requires loop-holds member-at-requires-2 is-lower-requires-2 returns cast-left sub-left add-i loop-less loop-again returns-2)
+run-at-spec =
+    tie.close
+    (tie.spec Inv-loop μ-loop sub-member-at member-at-requires is-lower-requires loop-holds member-at-requires-2 is-lower-requires-2 returns
+    cast-left sub-left add-i loop-less loop-again returns-2)

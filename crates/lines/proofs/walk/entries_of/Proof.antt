@@ -30,7 +30,9 @@ next-requires : tie.Need-next-requires Inv-loop μ-loop
 next-requires c κs = c .loop .inv .stands
 
 add-entries : tie.Need-add-entries Inv-loop μ-loop
-add-entries c = omega (arith, along-low (c .before .before .before .loop .inv) (c .before .before .before .before .pre))
+add-entries c =
+    let at-start = c .before .before .before .before in
+    omega (arith, along-low (c .before .before .before .loop .inv) (at-start .pre))
 
 loop-less : tie.Need-loop-less Inv-loop μ-loop
 loop-less c = rw (c .before .before .next .ensures) (sinks (c .before .before .before .loop .inv .stands) (moved c))
