@@ -17,7 +17,7 @@ use Rattle.surface.proofs.General.ListOf.{listOf-ext}
 use Rattle.post.specs.declared.ring.Ring.{Ring}
 use Rattle.lines.specs.Runs.{Saddle}
 use Rattle.listing.specs.Wrote.{runsRoom, postRoom, Wrote}
-use Rattle.listing.specs.Lines.{linesFrom, SaddleWith, PartsKnown, Listed}
+use Rattle.listing.specs.Lines.{linesFrom, SaddleWith, Known, Listed}
 use Rattle.listing.proofs.Writing.{more, nothing, front}
 use Rattle.listing.proofs.Saddles.{flatten-more}
 
@@ -25,7 +25,7 @@ first-false : (a b : Bool) → a && b ≡ false → b ≡ true → a ≡ false
 first-false true b h e = absurd (true≢false (sym e ∙ h))
 first-false false b h e = refl
 
-module _ {pl : Plot} {dales hills : List ℕ} (k : PartsKnown pl dales hills) {p : ℕ} {ring : Ring} (s : Saddle pl p ring) where
+module _ {pl : Plot} {dales hills : List ℕ} (k : Known pl dales hills) {p : ℕ} {ring : Ring} (s : Saddle pl p ring) where
   pub downward : SaddleWith pl false p ring dales
   unfolding dalesOf daleAt
   downward = record { saddle = s; known = k .dalesKnown }

@@ -22,7 +22,7 @@ use Rattle.surface.proofs.OfCalls.RoundTrip.{read-fresh, read-plot}
 use Rattle.survey_file.specs.Layout.{plotPosts}
 use Rattle.parts.proofs.Outcome.{parts-filled}
 use Rattle.listing.specs.Wrote.{lineRoom, Wrote}
-use Rattle.listing.specs.Lines.{linesFrom, PartsKnown}
+use Rattle.listing.specs.Lines.{linesFrom, Known}
 use Rattle.listing.specs.First.{Lent, Begins}
 use Rattle.listing.proofs.Writing.{front}
 use Rattle.listing.proofs.Chunks.{from-zero}
@@ -74,7 +74,7 @@ module _ (file : List ℕ) (hs : List ℤ) (h : length hs ≡ plotPosts file) wh
         rw (survey-served read marks v, survey-filled read marks v)
 
     known : (dales hills : List ℕ) → length dales ≡ posts read → length hills ≡ posts read
-        → PartsKnown read (partsDales read dales hills) (partsHills read dales hills)
+        → Known read (partsDales read dales hills) (partsHills read dales hills)
     known dales hills k m =
         let f = parts-filled read dales hills (ap (λ (a : Answer). a .code) (valid-parts read valid dales hills k m)) in
         record { valid = valid; dalesKnown = sym (f .0); hillsKnown = sym (f .1) }

@@ -7,7 +7,7 @@ use lib.ListN.{length, take}
 use Rattle.surface.specs.Plot.{plotOf, posts}
 use Rattle.surface.specs.Lister.{listing}
 use Rattle.survey_file.specs.Layout.{plotPosts}
-use Rattle.listing.specs.Lines.{linesFrom, PartsKnown}
+use Rattle.listing.specs.Lines.{linesFrom, Known}
 use Rattle.listing.specs.declared.first.Begun.{Begun}
 
 -- lists lent for a file, as long as its plot has posts
@@ -23,4 +23,4 @@ pub record Begins (file : List ℕ) (hs : List ℤ) (dales hills buffer : List �
   pub refused : r .grid .rows ≡ 0 → take (r .bytes) buffer ≡ listing file
   pub text : (r .grid .rows ≡ 0 → ⊥)
       → take (r .bytes) buffer ++ linesFrom (plotOf (r .grid) hs) 0 (posts (plotOf (r .grid) hs)) ≡ listing file
-  pub known : (r .grid .rows ≡ 0 → ⊥) → PartsKnown (plotOf (r .grid) hs) dales hills
+  pub known : (r .grid .rows ≡ 0 → ⊥) → Known (plotOf (r .grid) hs) dales hills

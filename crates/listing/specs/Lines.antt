@@ -36,12 +36,13 @@ pub record SaddleWith (pl : Plot) (up : Bool) (p : ℕ) (ring : Ring) (ends : Li
   pub known : ends ≡ endsOf pl (toward up pl)
 
 -- a plot, and its dales and hills
-pub record PartsKnown (pl : Plot) (dales hills : List ℕ) : Type 0 where
+pub record Known (pl : Plot) (dales hills : List ℕ) : Type 0 where
   pub valid : Valid pl
   pub dalesKnown : dales ≡ dalesOf pl
   pub hillsKnown : hills ≡ hillsOf pl
 
--- the first bytes are the lines of the posts from `from` on, up to the post named, which is further on where there was a post left; later bytes are kept
+-- the first bytes are the lines of the posts from `from` on, up to the post named, which is further on where there was a post left; later bytes are
+-- kept
 pub record Listed (pl : Plot) (from : ℕ) (old new : List ℕ) (r : Filled) : Type 0 where
   pub text : take (r .bytes) new ≡ linesFrom pl from (r .post)
   pub kept : drop (r .bytes) new ≡ drop (r .bytes) old

@@ -10,13 +10,13 @@ use surface::SADDLE;
 use surface::UP;
 use surface::VIRTUAL_PIT;
 ghost use mathlib.Core.Path.{_≡_};
-ghost use Prim.Native.Nat.{_+_, _≤_, _<_};
+ghost use Prim.Native.Nat.{_+_, _*_, _≤_, _<_};
 ghost use lib.ListN.{length};
-ghost use Rattle.surface.specs.Plot.{plotOf, posts, Vertex};
+ghost use Rattle.surface.specs.Plot.{plotOf, Vertex};
 ghost use Rattle.surface.specs.Lines.{toward};
 ghost use Rattle.surface.specs.Lister.{linesText, postLines};
 ghost use Rattle.listing.specs.Wrote.{runsRoom, postRoom, Wrote};
-ghost use Rattle.listing.specs.Lines.{endFrom, SaddleWith, PartsKnown, Listed};
+ghost use Rattle.listing.specs.Lines.{endFrom, SaddleWith, Known, Listed};
 
 // The most bytes that the lines of one post take.
 pub const POST_ROOM: usize = 960;
@@ -77,7 +77,7 @@ fn put_post(
     out: &mut [u8],
     at: usize,
 ) -> usize
-    requires { ⌜ PartsKnown (plotOf grid (now heights)) (now dales) (now hills) × (p < posts (plotOf grid (now heights))) × (at + postRoom ≤ length (now out)) ⌝ }
+    requires { ⌜ Known (plotOf grid (now heights)) (now dales) (now hills) × (p < grid .rows * grid .columns) × (at + postRoom ≤ length (now out)) ⌝ }
     ensures { λ r. ⌜ Wrote postRoom (now (out .entry)) (now (out .exit)) at (postLines (plotOf grid (now (heights .entry))) p) r ⌝ }
 {
     if mark_at(heights, grid, p) < SADDLE {
@@ -97,7 +97,7 @@ pub fn put_posts(
     from: usize,
     out: &mut [u8],
 ) -> Filled
-    requires { ⌜ PartsKnown (plotOf grid (now heights)) (now dales) (now hills) × (from ≤ posts (plotOf grid (now heights))) × (postRoom ≤ length (now out)) ⌝ }
+    requires { ⌜ Known (plotOf grid (now heights)) (now dales) (now hills) × (from ≤ grid .rows * grid .columns) × (postRoom ≤ length (now out)) ⌝ }
     ensures { λ r. ⌜ Listed (plotOf grid (now (heights .entry))) from (now (out .entry)) (now (out .exit)) r ⌝ }
 {
     let posts = grid.rows * grid.columns;

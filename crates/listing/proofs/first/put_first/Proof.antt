@@ -10,9 +10,10 @@ use Rattle.listing.proofs.first.put_first.Tie as tie
 -- the sides of an accepted plot are small
 sides : (c : tie.Else1) → let r = c .before .before .read-survey .result in (r .rows ≤ maxSide) × (r .columns ≤ maxSide)
 sides c =
-    let r = c .before .before in
-    let s = r .before .before .before .before .before .before .before in
-    small-sides (s .args .file .now) (s .args .heights .now) (s .pre .0 .heightsSize) (r .read-survey .result) (r .read-survey .ensures .0) (c .if1 .left)
+    let read = c .before .before in
+    let start = read .before .before .before .before .before .before .before in
+    let a = start .args in
+    small-sides (a .file .now) (a .heights .now) (start .pre .0 .heightsSize) (read .read-survey .result) (read .read-survey .ensures .0) (c .if1 .left)
 
 read-survey-requires : tie.Need-read-survey-requires
 read-survey-requires c κs = search needs
@@ -28,8 +29,16 @@ same-length-2 c = search needs
 
 returns : tie.Need-returns
 returns c =
-    let a = c .before .before .before .before .before .before .before .before .before .before .before .before .before .args in
-    begins-refused (c .before .before .before .before .before .before .before .before .before .before .before .before .before .args .file .now) (c .before .before .before .before .before .before .before .before .before .before .before .before .before .args .heights .now) (c .before .before .before .before .before .before .before .before .before .before .before .before .before .pre .0 .heightsSize) (c .before .before .before .before .before .before .read-survey .result) (c .before .before .before .before .before .before .read-survey .ensures .0) _ _ _ (a .out .now) _ (c .before .before .put-refused .result) (c .before .before .before .before .if1 .taken) (c .before .before .before .before .before .before .before .before .before .before .before .before .before .pre .1) (c .before .before .put-refused .ensures)
+    let at-then1 = c .before .before .before .before in
+    let at-read-survey = at-then1 .before .before in
+    let at-start = at-read-survey .before .before .before .before .before .before .before in
+    let a = at-start .args in
+    let read = at-read-survey .read-survey in
+    begins-refused (a .file .now) (a .heights .now) (at-start .pre .0 .heightsSize) (read .result) (read .ensures .0) _ _ _ (a .out .now) _
+    (c .before .before .put-refused .result)
+    (at-then1 .if1 .taken)
+    (at-start .pre .1)
+    (c .before .before .put-refused .ensures)
 
 survey-requires : tie.Need-survey-requires
 survey-requires c κs = search needs
@@ -38,10 +47,16 @@ dales-and-hills-requires : tie.Need-dales-and-hills-requires
 dales-and-hills-requires c κs = search needs
 
 cast-t30 : tie.Need-cast-t30
-cast-t30 c = omega (arith, sides (c .before .before .before .before .before .before .before .before .before .before .before .before .before) .0)
+cast-t30 c =
+    let at-slice-known6 = c .before .before .before .before .before .before .before .before in
+    let at-else1 = at-slice-known6 .before .before .before .before .before in
+    omega (arith, sides at-else1 .0)
 
 cast-t31 : tie.Need-cast-t31
-cast-t31 c = omega (arith, sides (c .before .before .before .before .before .before .before .before .before .before .before .before .before) .1)
+cast-t31 c =
+    let at-slice-known6 = c .before .before .before .before .before .before .before .before in
+    let at-else1 = at-slice-known6 .before .before .before .before .before in
+    omega (arith, sides at-else1 .1)
 
 put-head-requires : tie.Need-put-head-requires
 put-head-requires c κs = search needs
@@ -63,19 +78,28 @@ same-length-7 c = search needs
 
 returns-2 : tie.Need-returns-2
 returns-2 c =
-    let a = c .before .before .before .before .before .before .before .before .before .before .before .before .before .before .before .before .before .before .before .before .before .before .before .before .before .before .args in
-    let parts = c .before .before .before .before .before .before .before .before .dales-and-hills .ensures .1 in
-    begins-accepted (c .before .before .before .before .before .before .before .before .before .before .before .before .before .before .before .before .before .before .before .before .before .before .before .before .before .before .args .file .now) (c .before .before .before .before .before .before .before .before .before .before .before .before .before .before .before .before .before .before .before .before .before .before .before .before .before .before .args .heights .now) (c .before .before .before .before .before .before .before .before .before .before .before .before .before .before .before .before .before .before .before .before .before .before .before .before .before .before .pre .0 .heightsSize) (c .before .before .before .before .before .before .before .before .before .before .before .before .before .before .before .before .before .before .before .read-survey .result) (c .before .before .before .before .before .before .before .before .before .before .before .before .before .before .before .before .before .before .before .read-survey .ensures .0) _ (a .marks .now) (a .dales .now) (a .hills .now) _ _ (a .out .now) _
-    (c .before .before .before .before .before .before .before .before .before .before .before .before .before .before .survey .result)
+    let at-dales-and-hills = c .before .before .before .before .before .before .before .before in
+    let at-survey = at-dales-and-hills .before .before .before .before .before .before in
+    let at-else1 = at-survey .before .before .before in
+    let at-read-survey = at-else1 .before .before in
+    let at-start = at-read-survey .before .before .before .before .before .before .before in
+    let a = at-start .args in
+    let read = at-read-survey .read-survey in
+    let parts = at-dales-and-hills .dales-and-hills .ensures .1 in
+    begins-accepted (a .file .now) (a .heights .now) (at-start .pre .0 .heightsSize) (read .result) (read .ensures .0) _ (a .marks .now) (a .dales .now) (a .hills .now) _ _ (a .out .now) _
+    (at-survey .survey .result)
     (c .before .before .put-head .result)
-    (c .before .before .before .before .before .before .before .before .before .before .before .before .before .before .before .before .before .if1 .left)
-    (c .before .before .before .before .before .before .before .before .before .before .before .before .before .before .before .before .before .before .before .read-survey .ensures .1)
-    (c .before .before .before .before .before .before .before .before .before .before .before .before .before .before .survey .ensures .0)
+    (at-else1 .if1 .left)
+    (read .ensures .1)
+    (at-survey .survey .ensures .0)
     (parts .0)
     (parts .1)
-    (c .before .before .before .before .before .before .before .before .before .before .before .before .before .before .before .before .before .before .before .before .before .before .before .before .before .before .pre .0)
-    (c .before .before .before .before .before .before .before .before .before .before .before .before .before .before .before .before .before .before .before .before .before .before .before .before .before .before .pre .1)
+    (at-start .pre .0)
+    (at-start .pre .1)
     (c .before .before .put-head .ensures)
 
 pub put-first-spec : {M : Type 1} → statement M
-put-first-spec = tie.close (tie.spec read-survey-requires put-refused-requires same-length same-length-2 returns survey-requires dales-and-hills-requires cast-t30 cast-t31 put-head-requires same-length-3 same-length-4 same-length-5 same-length-6 same-length-7 returns-2)
+put-first-spec =
+    tie.close
+    (tie.spec read-survey-requires put-refused-requires same-length same-length-2 returns survey-requires dales-and-hills-requires cast-t30
+    cast-t31 put-head-requires same-length-3 same-length-4 same-length-5 same-length-6 same-length-7 returns-2)

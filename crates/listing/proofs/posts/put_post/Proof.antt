@@ -20,31 +20,43 @@ saddle c =
     }
 
 mark-at-requires : tie.Need-mark-at-requires
-mark-at-requires c κs = record { valid = c .before .before .before .pre .0 .valid; post = c .before .before .before .pre .1 }
+mark-at-requires c κs =
+    let at-start = c .before .before .before in
+    record { valid = at-start .pre .0 .valid; post = at-start .pre .1 }
 
 returns : tie.Need-returns
 returns c =
-    let a = c .before .before .before .before .before .args in
+    let at-start = c .before .before .before .before .before in
+    let a = at-start .args in
     no-saddle (plotOf (a .grid) (a .heights .now)) (a .p) (a .out .now) (a .at) (omega (arith, c .before .mark-at .ensures, c .if1 .taken))
 
 ring-at-requires : tie.Need-ring-at-requires
-ring-at-requires c κs = record { valid = c .before .before .before .before .before .pre .0 .valid; post = c .before .before .before .before .before .pre .1 }
+ring-at-requires c κs =
+    let at-start = c .before .before .before .before .before in
+    record { valid = at-start .pre .0 .valid; post = at-start .pre .1 }
 
 put-runs-requires : tie.Need-put-runs-requires
-put-runs-requires c κs = (downward (c .before .before .before .before .before .before .before .pre .0) (saddle (c .before)), omega (arith, c .before .before .before .before .before .before .before .pre .2))
+put-runs-requires c κs =
+    let at-start = c .before .before .before .before .before .before .before in
+    (downward (at-start .pre .0) (saddle (c .before)), omega (arith, at-start .pre .2))
 
 put-runs-requires-2 : tie.Need-put-runs-requires-2
 put-runs-requires-2 c κs =
+    let at-ring-at = c .before .before .before .before .before in
+    let at-start = at-ring-at .before .before .before .before .before .before in
     let w = c .before .before .before .put-runs in
-    (upward (c .before .before .before .before .before .before .before .before .before .before .before .pre .0) (saddle (c .before .before .before .before .before)), omega (arith, c .before .before .before .before .before .before .before .before .before .before .before .pre .2, w .kept, w .ensures .place, w .ensures .bound))
+    (upward (at-start .pre .0) (saddle at-ring-at), omega (arith, at-start .pre .2, w .kept, w .ensures .place, w .ensures .bound))
 
 same-length : tie.Need-same-length
 same-length c = search needs
 
 returns-2 : tie.Need-returns-2
 returns-2 c =
-    let a = c .before .before .before .before .before .before .before .before .before .before .before .before .before .before .args in
-    both (plotOf (a .grid) (a .heights .now)) (a .p) (saddle (c .before .before .before .before .before .before .before .before) .saddle) (c .before .before .before .before .before .before .put-runs .ensures) (c .before .before .put-runs2 .ensures)
+    let at-put-runs = c .before .before .before .before .before .before in
+    let at-ring-at = at-put-runs .before .before in
+    let at-start = at-ring-at .before .before .before .before .before .before in
+    let a = at-start .args in
+    both (plotOf (a .grid) (a .heights .now)) (a .p) (saddle at-ring-at .saddle) (at-put-runs .put-runs .ensures) (c .before .before .put-runs2 .ensures)
 
 pub put-post-spec : {M : Type 1} → statement M
 put-post-spec = tie.close (tie.spec mark-at-requires returns ring-at-requires put-runs-requires put-runs-requires-2 same-length returns-2)

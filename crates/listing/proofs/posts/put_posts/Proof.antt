@@ -39,35 +39,51 @@ room c =
     leb-true (l .loop .bytes) (end-byte l) (and-right (ltb (l .loop .post) (end-post l)) (leb (l .loop .bytes) (end-byte l)) (c .loop-test .taken))
 
 mul-posts : tie.Need-mul-posts Inv-loop μ-loop
-mul-posts c = omega (arith, c .before .before .before .before .pre .0 .valid .sides)
+mul-posts c =
+    let at-start = c .before .before .before .before in
+    omega (arith, at-start .pre .0 .valid .sides)
 
 sub-last : tie.Need-sub-last Inv-loop μ-loop
-sub-last c = omega (arith, c .before .before .before .before .pre .2)
+sub-last c =
+    let at-start = c .before .before .before .before in
+    omega (arith, at-start .pre .2)
 
 loop-holds : tie.Need-loop-holds Inv-loop μ-loop
 loop-holds c =
-    let s = c .before .before .before .before in
+    let at-start = c .before .before .before .before in
+    let s = at-start in
     let a = s .args in
     (refl, omega (arith, s .pre .2), s .pre .1, going-none (plotOf (a .grid) (a .heights .now)) (a .from) (a .out .now) _)
 
 put-post-requires : tie.Need-put-post-requires Inv-loop μ-loop
-put-post-requires c κs = (c .before .before .before .before .before .before .before .pre .0, left (c .before), omega (arith, room (c .before), c .before .before .loop .inv .1, c .before .before .loop .inv .3 .size))
+put-post-requires c κs =
+    let at-start = c .before .before .before .before .before .before .before in
+    let v = c .before .before .loop .inv in (at-start .pre .0, left (c .before), omega (arith, room (c .before), v .1, v .3 .size))
 
 add-post : tie.Need-add-post Inv-loop μ-loop
-add-post c = omega (arith, left (c .before .before .before .before), c .before .before .before .before .before .before .before .before .before .before .pre .0 .valid .sides)
+add-post c =
+    let at-in-loop = c .before .before .before .before in
+    let at-start = at-in-loop .before .before .before .before .before .before in
+    omega (arith, left at-in-loop, at-start .pre .0 .valid .sides)
 
 loop-less : tie.Need-loop-less Inv-loop μ-loop
-loop-less c = omega (arith, left (c .before .before .before .before), c .before .before .before .before .before .loop .inv .0)
+loop-less c =
+    let at-in-loop = c .before .before .before .before in
+    let at-loop = at-in-loop .before in
+    omega (arith, left at-in-loop, at-loop .loop .inv .0)
 
 loop-again : tie.Need-loop-again Inv-loop μ-loop
 loop-again c =
-    let l = c .before .before .before .before .before .loop in
-    let a = c .before .before .before .before .before .before .before .before .before .before .args in
+    let at-in-loop = c .before .before .before .before in
+    let at-loop = at-in-loop .before in
+    let at-start = at-loop .before .before .before .before .before in
+    let l = at-loop .loop in
+    let a = at-start .args in
     let w = c .before .before .put-post in (
       l .inv .0,
       l .inv .1,
-      omega (arith, left (c .before .before .before .before)),
-      going-more (plotOf (a .grid) (a .heights .now)) (a .from) (l .inv .3) (room (c .before .before .before .before)) (w .ensures) (omega (arith, w .kept)),
+      omega (arith, left at-in-loop),
+      going-more (plotOf (a .grid) (a .heights .now)) (a .from) (l .inv .3) (room at-in-loop) (w .ensures) (omega (arith, w .kept)),
     )
 
 same-length : tie.Need-same-length Inv-loop μ-loop
@@ -75,9 +91,12 @@ same-length c = c .before .loop .inv .3 .size
 
 returns : tie.Need-returns Inv-loop μ-loop
 returns c =
-    let a = c .before .before .before .before .before .before .args in
+    let at-start = c .before .before .before .before .before .before in
+    let a = at-start .args in
     let v = c .before .loop .inv in
     going-end (plotOf (a .grid) (a .heights .now)) (a .from) (v .3) (v .1) (v .2) (c .loop-test .left)
 
 pub put-posts-spec : {M : Type 1} → statement M
-put-posts-spec = tie.close (tie.spec Inv-loop μ-loop mul-posts sub-last loop-holds put-post-requires add-post loop-less loop-again same-length returns)
+put-posts-spec =
+    tie.close
+    (tie.spec Inv-loop μ-loop mul-posts sub-last loop-holds put-post-requires add-post loop-less loop-again same-length returns)

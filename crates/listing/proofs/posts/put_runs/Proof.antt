@@ -37,28 +37,44 @@ line-start-requires : tie.Need-line-start-requires Inv-loop μ-loop
 line-start-requires c κs = c .before .before .before .pre .0 .saddle
 
 end-from-requires : tie.Need-end-from-requires Inv-loop μ-loop
-end-from-requires c κs = vertex (c .before .before .before .before .before .before .pre .0) (c .before .before .line-start .ensures) (not-false _ (c .if1 .left))
+end-from-requires c κs =
+    let at-start = c .before .before .before .before .before .before in
+    vertex (at-start .pre .0) (c .before .before .line-start .ensures) (not-false _ (c .if1 .left))
 
 cast-put-line : tie.Need-cast-put-line Inv-loop μ-loop
-cast-put-line c = let post = c .before .before .before .before .before .before .before .before .pre .0 .saddle .post in omega (arith, post .post, post .valid .sides)
+cast-put-line c =
+    let at-start = c .before .before .before .before .before .before .before .before in
+    let post = at-start .pre .0 .saddle .post in omega (arith, post .post, post .valid .sides)
 
 put-line-requires : tie.Need-put-line-requires Inv-loop μ-loop
-put-line-requires c κs = let w = c .before .before .before .before .before .loop .inv .1 in omega (arith, there (c .before .before), w .place, w .bound, c .before .before .before .before .before .loop .inv .2, c .before .before .before .before .before .before .before .before .pre .1)
+put-line-requires c κs =
+    let at-loop = c .before .before .before .before .before in
+    let at-start = at-loop .before .before .before in
+    let w = at-loop .loop .inv .1 in omega (arith, there (c .before .before), w .place, w .bound, at-loop .loop .inv .2, at-start .pre .1)
 
 add-run : tie.Need-add-run Inv-loop μ-loop
-add-run c = omega (arith, there (c .before .before .before .before .before))
+add-run c =
+    let at-else1 = c .before .before .before .before .before in
+    omega (arith, there at-else1)
 
 loop-less : tie.Need-loop-less Inv-loop μ-loop
-loop-less c = omega (arith, there (c .before .before .before .before .before))
+loop-less c =
+    let at-else1 = c .before .before .before .before .before in
+    omega (arith, there at-else1)
 
 loop-again : tie.Need-loop-again Inv-loop μ-loop
 loop-again c =
-    let s = c .before .before .before .before .before .before .before .before .before .before .before in
-    let k = c .before .before .before .before .before .before .before .line-start .ensures in
-    let e = not-false _ (c .before .before .before .before .before .if1 .left) in (
+    let at-end-from = c .before .before .before .before in
+    let at-else1 = at-end-from .before in
+    let at-line-start = at-else1 .before .before in
+    let at-loop = at-line-start .before in
+    let at-start = at-loop .before .before .before in
+    let s = at-start in
+    let k = at-line-start .line-start .ensures in
+    let e = not-false _ (at-else1 .if1 .left) in (
       omega (arith, numbered (s .pre .0) k e),
-      line-more (s .pre .0) k e (s .args .letter) (c .before .before .before .before .end-from .result) (c .before .before .before .before .end-from .ensures) (c .before .before .before .before .before .before .before .before .loop .inv .1) (c .before .before .put-line .ensures),
-      omega (arith, c .before .before .put-line .kept, c .before .before .before .before .before .before .before .before .loop .inv .2),
+      line-more (s .pre .0) k e (s .args .letter) _ (at-end-from .end-from .ensures) (at-loop .loop .inv .1) (c .before .before .put-line .ensures),
+      omega (arith, c .before .before .put-line .kept, at-loop .loop .inv .2),
     )
 
 same-length : tie.Need-same-length Inv-loop μ-loop
@@ -67,11 +83,16 @@ same-length c = c .before .before .before .loop .inv .2
 returns : tie.Need-returns Inv-loop μ-loop
 unfolding runLines
 returns c =
-    let s = c .before .before .before .before .before .before in
+    let at-loop = c .before .before .before in
+    let at-start = at-loop .before .before .before in
+    let s = at-start in
     let a = s .args in
-    let n : c .before .before .before .loop .run ≡ length (runsOf (toward (a .up) (plotOf (a .grid) (a .heights .now))) (a .p)) =
-    omega (arith, c .before .before .before .loop .inv .0, none (s .pre .0) (c .before .before .line-start .ensures) (not-true _ (c .if1 .taken))) in
-    rw (← n) (within (omega (arith, few-runs (s .pre .0))) (c .before .before .before .loop .inv .1))
+    let n : at-loop .loop .run ≡ length (runsOf (toward (a .up) (plotOf (a .grid) (a .heights .now))) (a .p)) =
+    omega (arith, at-loop .loop .inv .0, none (s .pre .0) (c .before .before .line-start .ensures) (not-true _ (c .if1 .taken))) in
+    rw (← n) (within (omega (arith, few-runs (s .pre .0))) (at-loop .loop .inv .1))
 
 pub put-runs-spec : {M : Type 1} → statement M
-put-runs-spec = tie.close (tie.spec Inv-loop μ-loop loop-holds line-start-requires end-from-requires cast-put-line put-line-requires add-run loop-less loop-again same-length returns)
+put-runs-spec =
+    tie.close
+    (tie.spec Inv-loop μ-loop loop-holds line-start-requires end-from-requires cast-put-line put-line-requires add-run loop-less loop-again
+    same-length returns)

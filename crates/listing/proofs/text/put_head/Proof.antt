@@ -32,7 +32,24 @@ same-length c = search needs
 
 returns : tie.Need-returns
 unfolding textLine fields
-returns c = within (omega arith) (more (c .before .before .before .before .before .before .before .before .before .before .before .before .before .before .before .before .before .before .before .before .before .before .before .before .before .before .put-byte .ensures) (more (c .before .before .before .before .before .before .before .before .before .before .before .before .before .before .before .before .before .before .before .before .before .before .put-field .ensures) (more (c .before .before .before .before .before .before .before .before .before .before .before .before .before .before .before .before .before .before .put-field2 .ensures) (more (c .before .before .before .before .before .before .before .before .before .before .before .before .before .before .put-field3 .ensures) (more (c .before .before .before .before .before .before .before .before .before .before .put-field4 .ensures) (more (c .before .before .before .before .before .before .put-field5 .ensures) (c .before .before .put-byte2 .ensures)))))))
+returns c =
+    let at-put-field5 = c .before .before .before .before .before .before in
+    let at-put-field4 = at-put-field5 .before .before .before .before in
+    let at-put-field3 = at-put-field4 .before .before .before .before in
+    let at-put-field2 = at-put-field3 .before .before .before .before in
+    let at-put-field = at-put-field2 .before .before .before .before in
+    let at-put-byte = at-put-field .before .before .before .before in
+    within (omega arith)
+    (more (at-put-byte .put-byte .ensures)
+    (more (at-put-field .put-field .ensures)
+    (more (at-put-field2 .put-field2 .ensures)
+    (more (at-put-field3 .put-field3 .ensures)
+    (more (at-put-field4 .put-field4 .ensures)
+    (more (at-put-field5 .put-field5 .ensures)
+    (c .before .before .put-byte2 .ensures)))))))
 
 pub put-head-spec : {M : Type 1} → statement M
-put-head-spec = tie.close (tie.spec put-byte-requires put-field-requires put-field-requires-2 put-field-requires-3 put-field-requires-4 put-field-requires-5 put-byte-requires-2 same-length returns)
+put-head-spec =
+    tie.close
+    (tie.spec put-byte-requires put-field-requires put-field-requires-2 put-field-requires-3 put-field-requires-4 put-field-requires-5
+    put-byte-requires-2 same-length returns)

@@ -23,7 +23,15 @@ same-length c = search needs
 
 returns : tie.Need-returns
 unfolding refusedText textLine fields
-returns c = within (omega arith) (more (c .before .before .before .before .before .before .before .before .before .before .before .before .before .before .put-byte .ensures) (more (c .before .before .before .before .before .before .before .before .before .before .put-field .ensures) (more (c .before .before .before .before .before .before .put-field2 .ensures) (c .before .before .put-byte2 .ensures))))
+returns c =
+    let at-put-field2 = c .before .before .before .before .before .before in
+    let at-put-field = at-put-field2 .before .before .before .before in
+    let at-put-byte = at-put-field .before .before .before .before in
+    within (omega arith)
+    (more (at-put-byte .put-byte .ensures)
+    (more (at-put-field .put-field .ensures)
+    (more (at-put-field2 .put-field2 .ensures)
+    (c .before .before .put-byte2 .ensures))))
 
 pub put-refused-spec : {M : Type 1} → statement M
 put-refused-spec = tie.close (tie.spec put-byte-requires put-field-requires put-field-requires-2 put-byte-requires-2 same-length returns)
