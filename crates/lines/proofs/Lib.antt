@@ -1,5 +1,5 @@
--- Laws that the proofs of several functions cite.
+-- Walks of a plot; the runs of a ring; a saddle and its ring; the outcomes of the calls.
 pub mod Walking
 pub mod Running
-pub mod Tabled
-pub mod Lined
+pub mod Ringed
+pub mod Called

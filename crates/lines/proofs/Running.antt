@@ -2,24 +2,18 @@
 use Prim.Native.Nat.{ℕ, zero, suc, _+_, _-_, _≤_, _<_}
 use native.Mathlib.Omega.{arith}
 use native.Mathlib.Numerals.{add-one}
-use mathlib.Core.Path.{_≡_, refl, _∙_, ap}
+use mathlib.Core.Path.{_≡_, refl, sym, _∙_, ap}
 use mathlib.Core.Bool.{Bool, true, false, not, _&&_}
 use mathlib.Core.List.{List, [], _∷_, _++_}
-use borrow.Author.Tests.{eqb-true, eqb-false, ltb-true, ltb-false}
-use lib.Dec.{ltb, eqb}
-use lib.IntN.{ℤ}
-use lib.ListN.{length, getD, drop, List·getD-append, length-append}
-use lib.Seq.{drop-cons, drop-length, drop-append-le, getD-append-add, length-take-le}
+use borrow.Author.Tests.{eqb-true, eqb-false, lt-ltb, le-ltb}
+use lib.Dec.{eqb}
+use lib.ListN.{length, getD, drop, List·getD-append}
+use lib.Seq.{drop-cons, drop-length, drop-append-le, getD-append-add}
 use mir.Val.{boolByte}
-use Rattle.surface.specs.Lists.{keep, all, takeWhile}
-use Rattle.surface.specs.Edges.{lowest, lowestOr, runs, runsFrom}
-use Rattle.surface.proofs.Bools.{either, and-left, and-right}
-use Rattle.surface.proofs.RunStarts.{while-more, runs-circle}
-use Rattle.plot.specs.Scan.{lowerOf}
-use Rattle.surface.proofs.Walks.{Vertex}
-use Rattle.plot.specs.Rings.{held}
-use Rattle.plot.specs.declared.ring.Ring.{Ring}
-use Rattle.lines.specs.Runs.{StartsAt, Round}
+use Rattle.surface.specs.Lists.{keep, all, takeWhile, lastOr}
+use Rattle.surface.specs.Edges.{lowerOf, lowest, lowestOr, runs, runsFrom}
+use Rattle.surface.proofs.General.Bools.{and-left, and-right}
+use Rattle.lines.specs.Runs.{runFrom, StartsAt}
 
 -- a list that goes on with another
 pub getD-front : (l m : List ℕ) (j : ℕ) → j < length l → getD (l ++ m) j 0 ≡ getD l j 0
@@ -34,14 +28,38 @@ getD-after : (x : List ℕ) (l : List (List ℕ)) (n : ℕ) → (n ≡ 0 → ⊥
 getD-after x l zero h = absurd (h refl)
 getD-after x l (suc n) h = ap (λ (m : ℕ). getD l m []) (omega arith)
 
+last-getD : (x : ℕ) (l : List ℕ) → lastOr x l ≡ getD (x ∷ l) (length l) 0
+unfolding lastOr
+last-getD x [] = refl
+last-getD x (y ∷ l) = last-getD y l
+
 module _ (s : ℕ → Bool) where
+  -- the members that pass from place j on
+  while-more : (l : List ℕ) (j : ℕ) → j < length l → s (getD l j 0) ≡ true → takeWhile s (drop j l) ≡ getD l j 0 ∷ takeWhile s (drop (j + 1) l)
+  unfolding takeWhile
+  while-more l j h e = rw (drop-cons l j 0 h, e, add-one)
+
+  pub while-stop : (l : List ℕ) (j : ℕ) → j < length l → s (getD l j 0) ≡ false → takeWhile s (drop j l) ≡ []
+  unfolding takeWhile
+  while-stop l j h e = rw (drop-cons l j 0 h, e)
+
+  pub while-end : (l : List ℕ) (j : ℕ) → j ≡ length l → takeWhile s (drop j l) ≡ []
+  unfolding takeWhile
+  while-end l j e = rw (e, drop-length l)
+
   -- the search for run number j, come to place i: `before` tells of the member before it, and `left` runs are to be passed
   pub record Seek (ring : List ℕ) (j i : ℕ) (before : Bool) (left : ℕ) : Type 0 where
     pub number : length (runs s ring) + left ≡ j + length (runsFrom s before (drop i ring) ring)
     pub same : getD (runs s ring) j [] ≡ getD (runsFrom s before (drop i ring) ring) left []
 
+  -- before the first member of a ring comes its last
+  circle : (ring : List ℕ) → 0 < length ring → all s ring ≡ false → runs s ring ≡ runsFrom s (s (getD ring (length ring - 1) 0)) ring ring
+  unfolding runs
+  circle [] h e = absurd (omega arith)
+  circle (x ∷ l) h e = let k : length (x ∷ l) - 1 ≡ length l = omega arith in rw (e, k, last-getD x l)
+
   pub seek-none : (ring : List ℕ) (j : ℕ) → 0 < length ring → all s ring ≡ false → Seek ring j 0 (s (getD ring (length ring - 1) 0)) j
-  seek-none ring j h e = let k = runs-circle s ring h e in record { number = rw k (omega arith); same = rw k }
+  seek-none ring j h e = let k = circle ring h e in record { number = rw k (omega arith); same = rw k }
 
   module _ {ring : List ℕ} {j i : ℕ} {before : Bool} {left : ℕ} (h : i < length ring) (k : Seek ring j i before left) where
     abbrev here : Bool
@@ -51,7 +69,7 @@ module _ (s : ℕ → Bool) where
     later = runsFrom s here (drop (i + 1) ring) ring
 
     abbrev this : List ℕ
-    this = takeWhile s (drop i (ring ++ ring))
+    this = runFrom s ring i
 
     cons : runsFrom s before (drop i ring) ring ≡ keep (here && not before) this ++ later
     unfolding runsFrom
@@ -84,10 +102,9 @@ module _ (s : ℕ → Bool) where
         let c : runsFrom s before (drop i ring) ring ≡ this ∷ later = cons ∙ rw t in
         let n = rw c at (k .number) in
         record {
-          numbered = λ _. omega arith;
+          there = lt-ltb j _ (omega arith) ∙ sym (lt-ltb i _ h);
           passes = λ _. and-left here (not before) t;
           run = λ _. k .same ∙ ap (λ (l : List (List ℕ)). getD l left []) c ∙ ap (λ (m : ℕ). getD (this ∷ later) m []) z;
-          none = λ m. absurd (omega arith);
         }
 
   pub seek-end : {ring : List ℕ} {j i : ℕ} {before : Bool} {left : ℕ} → i ≡ length ring → Seek ring j i before left → StartsAt s ring j i
@@ -96,10 +113,9 @@ module _ (s : ℕ → Bool) where
       let d : drop i ring ≡ [] = rw h (drop-length ring) in
       let n = rw d at (k .number) in
       record {
-        numbered = λ m. absurd (omega arith);
+        there = le-ltb j _ (omega arith) ∙ sym (le-ltb i _ (omega arith));
         passes = λ m. absurd (omega arith);
         run = λ m. absurd (omega arith);
-        none = λ _. omega arith;
       }
 
 -- the lowest of the members that pass, found one after the other
@@ -117,25 +133,3 @@ module _ (lower : ℕ → ℕ → Bool) (s : ℕ → Bool) (l : List ℕ) where
   pub low-none : (best j : ℕ) → takeWhile s (drop j l) ≡ [] → best ≡ lowestOr lower best (takeWhile s (drop j l))
   unfolding lowestOr
   low-none best j e = rw e
-
-pub lower-vertex : (lower : ℕ → ℕ → Bool) {n : ℕ} (x y : ℕ) → Vertex n x → Vertex n y → Vertex n (lowerOf lower x y)
-lower-vertex lower x y v w = either (lower y x) (λ e. rw e w) (λ e. rw e v)
-
--- a ring gone round twice
-pub held-long : (r : Ring) → r .len ≤ 8 → length (r .members) ≡ 8 → length (held r) ≡ r .len
-held-long r h k = length-take-le (r .len) (r .members) (omega arith)
-
-module _ {hs : List ℤ} {up : Bool} {p : ℕ} {r : Ring} (w : Round hs up p r) where
-  pub long : length (held r) ≡ r .len
-  long = held-long r (w .low) (w .size)
-
-  pub twice-long : length (held r ++ held r) ≡ r .len + r .len
-  twice-long = rw (length-append, long)
-
-  pub twice-vertex : (j : ℕ) → j < r .len + r .len → Vertex (length hs) (getD (held r ++ held r) j 0)
-  twice-vertex j h =
-      either (ltb j (r .len))
-      (λ e. let k = ltb-true j (r .len) e in rw (getD-front (held r) (held r) j (omega (arith, long))) (w .vertex j k))
-      (λ e.
-      let k = ltb-false j (r .len) e in
-      rw (getD-back (held r) (held r) j (omega (arith, long))) (w .vertex (j - length (held r)) (omega (arith, long))))

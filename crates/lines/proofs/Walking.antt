@@ -1,127 +1,93 @@
--- Walks in either direction over a plot: document 01's descent is one, and so is its ascent, in the reversed order.
-use Prim.Native.Nat.{ℕ, zero, suc, _+_, _*_, _≤_, _<_}
+-- A walk of a plot, a step at a time.
+use Prim.Native.Nat.{ℕ, zero, suc, _+_, _≤_, _<_}
 use native.Mathlib.Omega.{arith}
 use mathlib.Core.Path.{_≡_, refl, sym, _∙_, ap}
-use mathlib.Core.Logic.{_⊎_, ⊎-elim}
-use mathlib.Core.Bool.{Bool, true, false, true≢false}
-use mathlib.Core.List.{List, [], _∷_, List·Memᴰ}
-use lib.IntN.{ℤ}
-use lib.ListN.{length, set}
-use Rattle.surface.specs.Lists.{listOf}
-use Rattle.surface.specs.Plot.{Plot, posts, virtualPit}
-use Rattle.surface.specs.Marks.{fallsIn, ringOf}
-use Rattle.surface.specs.Lines.{lowestOf}
-use Rattle.surface.proofs.Bools.{either}
-use Rattle.surface.proofs.Order.{rank}
-use Rattle.surface.proofs.RingEdges.{ring-other}
-use Rattle.surface.proofs.Walks.{Vertex, next-vertex, next-step, next-stop, pit-stop, walk-next, end-more}
-use Rattle.surface.proofs.WalkEntries.{listOf-front, walk-low, walk-list}
-use Rattle.surface.proofs.ListOf.{Filled}
-use Rattle.plot.specs.Fits.{Fits}
-use Rattle.plot.specs.Scan.{toward}
-use Rattle.plot.proofs.Round.{few, fits-sides}
-use Rattle.plot.proofs.Extreme.{toward-strict}
-use Rattle.plot.proofs.Descents.{fit, descent}
-use Rattle.lines.specs.Directed.{isEndOf, nextOf, walkOf, entryOf}
+use mathlib.Core.Bool.{Bool, true, false, cond, true≢false}
+use mathlib.Core.List.{List, [], _∷_}
+use lib.ListN.{length}
+use lib.Seq.{sets, length-sets}
+use Rattle.surface.specs.Plot.{Plot, posts, maxPosts, virtualPit}
+use Rattle.surface.specs.Lines.{Descent, isEnd, next, walk, toward}
+use Rattle.surface.proofs.General.Bools.{either}
+use Rattle.surface.proofs.AnyOrder.Order.{rank}
+use Rattle.surface.proofs.AnyOrder.Walks.{Falling, next-vertex, next-step, next-stop, pit-stop, walk-next}
+use Rattle.surface.proofs.OfPlots.Instance.{toward-falling}
 use Rattle.lines.specs.declared.walk.Walk.{Walk}
+use Rattle.lines.specs.Walks.{WalkOf, path}
 
-module _ {pl : Plot} (fits : Fits pl) where
-  pub vertex-post : (p : ℕ) → Vertex (posts pl) p → (p ≡ 65535 → ⊥) → p < posts pl
-  unfolding virtualPit
-  vertex-post p v h = ⊎-elim (λ (k : p < posts pl). k) (λ (k : p ≡ virtualPit). absurd (h k)) v
+-- a walk has at most one entry more than it may take steps
+walk-low : (d : Descent) (m p : ℕ) → length (walk d m p) ≤ m + 1
+unfolding walk
+walk-low d zero p = omega arith
+walk-low d (suc m) p = go (isEnd d p) (walk-low d m (next d p))
+  where
+    go : (b : Bool) → length (walk d m (next d p)) ≤ m + 1 → length (p ∷ cond b [] (walk d m (next d p))) ≤ suc m + 1
+    go true h = omega arith
+    go false h = omega arith
 
-  pub others : (p q : ℕ) → p < posts pl → List·Memᴰ q (ringOf pl p) → q ≡ p → ⊥
-  unfolding ringOf
-  others p q = ring-other (fits-sides fits) (fallsIn pl) (fit fits) p q
+-- lists that are alike after stores are of one length
+pub sets-length : (l m : List ℕ) (i j : ℕ) (v w : List ℕ) → sets l i v ≡ sets m j w → length l ≡ length m
+sets-length l m i j v w e = sym (length-sets l i v) ∙ ap length e ∙ length-sets m j w
 
-  module _ (up : Bool) where
-    -- a walk stays exactly at an end
-    pub stays : (p : ℕ) → Vertex (posts pl) p → nextOf pl up p ≡ p → isEndOf pl up p ≡ true
-    stays p v h =
-        either (isEndOf pl up p) (λ e. e)
-        (λ e.
-        absurd (true≢false (sym (next-step (descent fits up) p v e .falls) ∙ ap (λ (q : ℕ). toward pl.heights up q p) h ∙ toward-strict pl.heights up .irrefl p)))
+module _ {pl : Plot} {at : Walk} (w : WalkOf pl at) where
+  abbrev d : Descent
+  d = toward (at .up) pl
 
-    pub moves : (p : ℕ) → (nextOf pl up p ≡ p → ⊥) → isEndOf pl up p ≡ false
-    moves p h = either (isEndOf pl up p) (λ e. absurd (h (next-stop (descent fits up) p e))) (λ e. e)
+  abbrev onward : Walk
+  onward = record { post = next d (at .post); up = at .up }
 
-    pub next-pit : (p : ℕ) → p ≡ 65535 → nextOf pl up p ≡ p
-    unfolding virtualPit
-    next-pit p e = next-stop (descent fits up) p (ap (isEndOf pl up) e ∙ pit-stop (descent fits up))
+  law : Falling (posts pl) d
+  law = toward-falling pl (w .valid .sides) (at .up)
 
-    length-end : (p : ℕ) → Vertex (posts pl) p → isEndOf pl up p ≡ true → length (walkOf pl up p) ≡ 1
-    length-end p v e = rw (walk-next (descent fits up) p v, e)
+  -- it stays exactly at an end, and the virtual pit is one
+  stays : next d (at .post) ≡ at .post → isEnd d (at .post) ≡ true
+  stays h =
+      either (isEnd d (at .post)) (λ e. e)
+      (λ e.
+      let falls = next-step law (at .post) (w .vertex) e .falls in
+      absurd (true≢false (sym falls ∙ ap (λ (q : ℕ). d .lower q (at .post)) h ∙ law .order .irrefl (at .post))))
 
-    length-more : (p : ℕ) → Vertex (posts pl) p → isEndOf pl up p ≡ false
-        → length (walkOf pl up p) ≡ 1 + length (walkOf pl up (nextOf pl up p))
-    length-more p v e = rw (walk-next (descent fits up) p v, e) (omega arith)
+  moves : (next d (at .post) ≡ at .post → ⊥) → isEnd d (at .post) ≡ false
+  moves h = either (isEnd d (at .post)) (λ e. absurd (h (next-stop law (at .post) e))) (λ e. e)
 
-    walk-some : (p : ℕ) → Vertex (posts pl) p → 1 ≤ length (walkOf pl up p)
-    walk-some p v = rw (walk-next (descent fits up) p v) (omega arith)
+  pub pit-stays : at .post ≡ virtualPit → next d (at .post) ≡ at .post
+  pit-stays e = next-stop law (at .post) (ap (isEnd d) e ∙ pit-stop law)
 
-    pub length-low : (p : ℕ) → length (walkOf pl up p) ≤ 14401
-    length-low p = omega (arith, walk-low (toward pl.heights up) (ringOf pl) (lowestOf (toward pl.heights up)) (posts pl) p, few fits)
+  pub onward-of : WalkOf pl onward
+  onward-of = record { valid = w .valid; vertex = next-vertex law (at .post) (w .vertex) }
 
--- a walk that has come from one post to another, and counted those it went by
+  pub path-low : length (path pl at) ≤ maxPosts + 1
+  path-low = omega (arith, walk-low d (posts pl) (at .post), w .valid .sides)
+
+  pub path-some : 1 ≤ length (path pl at)
+  path-some = rw (walk-next law (at .post) (w .vertex)) (omega arith)
+
+  pub path-end : next d (at .post) ≡ at .post → path pl at ≡ at .post ∷ []
+  path-end h = rw (walk-next law (at .post) (w .vertex), stays h)
+
+  module _ (h : next d (at .post) ≡ at .post → ⊥) where
+    pub path-more : path pl at ≡ at .post ∷ path pl onward
+    path-more = walk-next law (at .post) (w .vertex) ∙ rw (moves h)
+
+    pub sinks : rank (d .lower) (posts pl) (onward .post) < rank (d .lower) (posts pl) (at .post)
+    sinks = next-step law (at .post) (w .vertex) (moves h) .sinks
+
+-- a walk that has come from one post to another, and counted those it went by and the one at which it stands
 pub record Along (pl : Plot) (from at : Walk) (entries : ℕ) : Type 0 where
-  pub vertex : Vertex (posts pl) (at .post)
-  pub same : at .up ≡ from .up
-  pub counted : entries + length (walkOf pl (from .up) (at .post)) ≡ 1 + length (walkOf pl (from .up) (from .post))
+  pub stands : WalkOf pl at
+  pub counted : entries + length (path pl at) ≡ 1 + length (path pl from)
 
-module _ {pl : Plot} (fits : Fits pl) where
-  abbrev onward : Walk → Walk
-  onward at = record { post = nextOf pl (at .up) (at .post); up = at .up }
+module _ {pl : Plot} {from : Walk} where
+  pub along-none : WalkOf pl from → Along pl from from 1
+  along-none w = record { stands = w; counted = refl }
 
-  pub along-none : (from : Walk) → Vertex (posts pl) (from .post) → Along pl from from 1
-  along-none from v = record { vertex = v; same = refl; counted = refl }
+  module _ {at : Walk} {entries : ℕ} (a : Along pl from at entries) where
+    pub along-low : WalkOf pl from → (entries ≤ length (path pl from)) × (entries ≤ maxPosts + 1)
+    along-low w = omega (arith, a .counted, path-some (a .stands), path-low w)
 
-  -- the step is no end of the walk as it set out
-  on : {from at : Walk} {entries : ℕ} → Along pl from at entries → (nextOf pl (at .up) (at .post) ≡ at .post → ⊥)
-      → isEndOf pl (from .up) (at .post) ≡ false
-  on {from} {at} a h = moves fits (from .up) (at .post) (rw (a .same) at h)
+    pub along-more : (next (toward (at .up) pl) (at .post) ≡ at .post → ⊥)
+        → Along pl from (record { post = next (toward (at .up) pl) (at .post); up = at .up }) (entries + 1)
+    along-more h = record { stands = onward-of (a .stands); counted = omega (arith, a .counted, ap length (path-more (a .stands) h)) }
 
-  pub along-more : {from at : Walk} {entries : ℕ} → Along pl from at entries → (nextOf pl (at .up) (at .post) ≡ at .post → ⊥)
-      → Along pl from (onward at) (entries + 1)
-  along-more {from} {at} a h =
-      record {
-        vertex = next-vertex (descent fits (at .up)) (at .post) (a .vertex);
-        same = a .same;
-        counted = rw (a .same) (omega (arith, a .counted, length-more fits (from .up) (at .post) (a .vertex) (on a h)));
-      }
-
-  pub along-sinks : {from at : Walk} {entries : ℕ} → Along pl from at entries → (nextOf pl (at .up) (at .post) ≡ at .post → ⊥)
-      → rank (toward pl.heights (from .up)) (posts pl) (nextOf pl (at .up) (at .post)) < rank (toward pl.heights (from .up)) (posts pl) (at .post)
-  along-sinks {from} {at} a h = rw (a .same) (next-step (descent fits (from .up)) (at .post) (a .vertex) (on a h) .sinks)
-
-  -- what is counted are entries of the walk
-  pub along-low : {from at : Walk} {entries : ℕ} → Along pl from at entries → entries ≤ length (walkOf pl (from .up) (from .post))
-  along-low {from} {at} a = omega (arith, a .counted, walk-some fits (from .up) (at .post) (a .vertex))
-
-  pub along-end : {from at : Walk} {entries : ℕ} → Along pl from at entries → nextOf pl (at .up) (at .post) ≡ at .post
-      → entries ≡ length (walkOf pl (from .up) (from .post))
-  along-end {from} {at} {entries} a h =
-      omega (arith, a .counted, length-end fits (from .up) (at .post) (a .vertex) (stays fits (from .up) (at .post) (a .vertex) (rw (a .same) at h)))
-
--- the entries of a line
-module _ (pl : Plot) (up : Bool) (p q : ℕ) where
-  pub line-entries : p ∷ walkOf pl up q ≡ listOf (entryOf pl up p q) (1 + length (walkOf pl up q))
-  unfolding entryOf
-  line-entries =
-      let w = walkOf pl up q in
-      let e : 1 + length w ≡ suc (length w) = omega arith in
-      rw e
-      (ap (λ (l : List ℕ). p ∷ l) (walk-list (toward pl.heights up) (ringOf pl) (lowestOf (toward pl.heights up)) (posts pl) q)
-      ∙ sym (listOf-front (entryOf pl up p q) (length w)))
-
--- one entry on is one step on
-pub entry-more : {pl : Plot} → Fits pl → (up : Bool) (p q i : ℕ) → 1 ≤ i
-    → nextOf pl up (entryOf pl up p q i) ≡ entryOf pl up p q (i + 1)
-unfolding entryOf
-entry-more fits up p q zero h = absurd (omega arith)
-entry-more fits up p q (suc i) h = let e : suc i + 1 ≡ suc (suc i) = omega arith in rw e (sym (end-more (descent fits up) i q))
-
--- the first entry stored
-pub filled-first : (f : ℕ → ℕ) (l : List ℕ) (x : ℕ) → 0 < length l → x ≡ f 0 → Filled f (set l 0 x) 1 (set l 0 x)
-unfolding listOf
-filled-first f [] x h e = absurd (omega arith)
-filled-first f (y ∷ l) x h e = rw e
+    pub along-end : next (toward (at .up) pl) (at .post) ≡ at .post → entries ≡ length (path pl from)
+    along-end h = omega (arith, a .counted, ap length (path-end (a .stands) h))

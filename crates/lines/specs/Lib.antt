@@ -1,4 +1,3 @@
--- Walks and lines in either direction, and what the calls work out on the way.
-pub mod Directed
-pub mod Rows
+-- A walk of a plot; a saddle, and where its lines go to.
+pub mod Walks
 pub mod Runs

@@ -1,30 +1,47 @@
--- A run of a ring by the ring place of its first member.
+-- A saddle and its ring; a run of the ring by the place of its first member; where a line goes to.
 use Prim.Native.Nat.{ℕ, _<_, _≤_}
 use mathlib.Core.Path.{_≡_}
-use mathlib.Core.Bool.{Bool, true, false}
+use mathlib.Core.Bool.{Bool, true}
 use mathlib.Core.List.{List, [], _++_}
-use lib.IntN.{ℤ}
+use lib.Dec.{ltb}
 use lib.ListN.{length, getD, drop}
-use Rattle.surface.specs.Lists.{all, takeWhile}
-use Rattle.surface.specs.Edges.{runs}
-use Rattle.surface.proofs.Walks.{Vertex}
-use Rattle.plot.specs.declared.ring.Ring.{Ring}
-use Rattle.plot.specs.Scan.{toward}
-use Rattle.plot.specs.Rings.{held}
+use Rattle.surface.specs.Lists.{takeWhile}
+use Rattle.surface.specs.Plot.{Plot, PostOf}
+use Rattle.surface.specs.Edges.{lowest, runs, ringOf}
+use Rattle.surface.specs.Marks.{markAt}
+use Rattle.surface.specs.Lines.{Descent, toward, runsOf, lineStart}
+use Rattle.post.specs.declared.ring.Ring.{Ring}
+use Rattle.post.specs.Rings.{held, Holds}
+use Rattle.lines.specs.declared.run.Start.{Start}
 
--- i is the place at which run number j starts, or the length where there is no such run; round from there its members are those that pass the test
-pub record StartsAt (s : ℕ → Bool) (ring : List ℕ) (j i : ℕ) : Type 0 where
-  pub numbered : i < length ring → j < length (runs s ring)
-  pub passes : i < length ring → s (getD ring i 0) ≡ true
-  pub run : i < length ring → getD (runs s ring) j [] ≡ takeWhile s (drop i (ring ++ ring))
-  pub none : length ring ≤ i → length (runs s ring) ≤ j
+-- p is a saddle, and this is its ring
+pub record Saddle (pl : Plot) (p : ℕ) (ring : Ring) : Type 0 where
+  pub post : PostOf pl p
+  pub saddle : 3 ≤ markAt pl p
+  pub holds : Holds ring (ringOf pl p)
 
--- a ring of vertices round post p, not all of one sort
-pub record Round (hs : List ℤ) (up : Bool) (p : ℕ) (ring : Ring) : Type 0 where
-  pub small : length hs ≤ 14400
-  pub post : p < length hs
-  pub some : 0 < ring .len
-  pub low : ring .len ≤ 8
-  pub size : length (ring .members) ≡ 8
-  pub vertex : (i : ℕ) → i < ring .len → Vertex (length hs) (getD (held ring) i 0)
-  pub mixed : all (λ q. toward hs up q p) (held ring) ≡ false
+-- place i of its ring is in a run
+pub record InRun (pl : Plot) (up : Bool) (p : ℕ) (ring : Ring) (i : ℕ) : Type 0 where
+  pub saddle : Saddle pl p ring
+  pub place : i < ring .len
+  pub lower : toward up pl .lower (getD (held ring) i 0) p ≡ true
+
+module _ (s : ℕ → Bool) (ring : List ℕ) where
+  -- the members round from place i that pass the test
+  abbrev pub runFrom : ℕ → List ℕ
+  runFrom i = takeWhile s (drop i (ring ++ ring))
+
+  -- i is the place at which run number j starts, or the length where there is no such run
+  pub record StartsAt (j i : ℕ) : Type 0 where
+    pub there : ltb j (length (runs s ring)) ≡ ltb i (length ring)
+    pub passes : i < length ring → s (getD ring i 0) ≡ true
+    pub run : i < length ring → getD (runs s ring) j [] ≡ runFrom i
+
+-- the lowest member of the run of p that starts at place i
+abbrev pub lowestFrom : Descent → ℕ → List ℕ → ℕ → ℕ
+lowestFrom d p ring i = lowest (d .lower) (runFrom (λ q. d .lower q p) ring i)
+
+-- whether there is such a run, and where its line goes to
+pub record Starts (d : Descent) (p run : ℕ) (r : Start) : Type 0 where
+  pub found : r .found ≡ ltb run (length (runsOf d p))
+  pub post : r .found ≡ true → r .post ≡ lineStart d p run

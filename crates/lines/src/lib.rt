@@ -1,26 +1,26 @@
-// Document 01, "Lines, dales and hills": a walk a post at a time, and the lines of a saddle.
+// docs/SPECIFICATION.md, "Lines, dales and hills": next down and next up from a post, and the lines of a saddle.
 mod line;
-mod order;
 pub mod run;
-mod table;
 mod walk;
 
+use limits::post_verdict;
 use line::draw_line;
+use next::step::next_at;
+use surface::DOWN;
 use surface::Entries;
+use surface::Grid;
 use surface::Next;
-use table::placed;
-use walk::Walk;
+use surface::UP;
 ghost use mathlib.Core.Path.{_≡_};
-ghost use mathlib.Core.Bool.{true, false};
 ghost use Rattle.surface.specs.Plot.{plot};
-ghost use Rattle.surface.specs.Calls.{nextDownAnswer, nextUpAnswer, thalwegAnswer, thalwegList, ridgeAnswer, ridgeList};
-ghost use Rattle.lines.specs.Directed.{nextAnswerOf};
+ghost use Rattle.surface.specs.Lines.{toward};
+ghost use Rattle.surface.specs.Calls.{nextAnswer, nextDownAnswer, nextUpAnswer, thalwegAnswer, thalwegList, ridgeAnswer, ridgeList};
 
 // Next down, or next up, from a post.
-fn next(rows: u32, columns: u32, heights: &[i32], post: u32, up: bool) -> Next
-    ensures { λ r. ⌜ r ≡ nextAnswerOf (plot rows columns (now (heights .entry))) up post ⌝ }
+fn next_post(rows: u32, columns: u32, heights: &[i32], post: u32, up: bool) -> Next
+    ensures { λ r. ⌜ r ≡ nextAnswer (plot rows columns (now (heights .entry))) (toward up (plot rows columns (now (heights .entry)))) post ⌝ }
 {
-    let refusal = placed(rows, columns, heights, post);
+    let refusal = post_verdict(rows, columns, heights, post);
     if refusal.code != 0 {
         return Next {
             code: refusal.code,
@@ -28,15 +28,14 @@ fn next(rows: u32, columns: u32, heights: &[i32], post: u32, up: bool) -> Next
             post: 0,
         };
     }
-    let here = Walk {
-        post: post as usize,
-        up,
+    let grid = Grid {
+        rows: rows as usize,
+        columns: columns as usize,
     };
-    let ahead = here.next(heights, rows as usize, columns as usize);
     Next {
         code: 0,
         place: 0,
-        post: ahead.post as u32,
+        post: next_at(heights, grid, post as usize, up) as u32,
     }
 }
 
@@ -44,14 +43,14 @@ fn next(rows: u32, columns: u32, heights: &[i32], post: u32, up: bool) -> Next
 pub fn next_down(rows: u32, columns: u32, heights: &[i32], post: u32) -> Next
     ensures { λ r. ⌜ r ≡ nextDownAnswer (plot rows columns (now (heights .entry))) post ⌝ }
 {
-    next(rows, columns, heights, post, false)
+    next_post(rows, columns, heights, post, DOWN)
 }
 
 // Next up from a post: its highest neighbour, the post itself at a peak.
 pub fn next_up(rows: u32, columns: u32, heights: &[i32], post: u32) -> Next
     ensures { λ r. ⌜ r ≡ nextUpAnswer (plot rows columns (now (heights .entry))) post ⌝ }
 {
-    next(rows, columns, heights, post, true)
+    next_post(rows, columns, heights, post, UP)
 }
 
 // The water line of a saddle and one of its lower runs. Refused: the list stays as it was.
@@ -66,7 +65,7 @@ pub fn thalweg(
     ensures { λ r. ⌜ r ≡ thalwegAnswer (plot rows columns (now (heights .entry))) post run (now (line .entry)) ⌝ }
     ensures { λ _. ⌜ now (line .exit) ≡ thalwegList (plot rows columns (now (heights .entry))) post run (now (line .entry)) ⌝ }
 {
-    draw_line(rows, columns, heights, post, run, false, line)
+    draw_line(rows, columns, heights, post, run, DOWN, line)
 }
 
 // The crest line of a saddle and one of its upper runs. Refused: the list stays as it was.
@@ -81,5 +80,5 @@ pub fn ridge(
     ensures { λ r. ⌜ r ≡ ridgeAnswer (plot rows columns (now (heights .entry))) post run (now (line .entry)) ⌝ }
     ensures { λ _. ⌜ now (line .exit) ≡ ridgeList (plot rows columns (now (heights .entry))) post run (now (line .entry)) ⌝ }
 {
-    draw_line(rows, columns, heights, post, run, true, line)
+    draw_line(rows, columns, heights, post, run, UP, line)
 }

@@ -1,51 +1,47 @@
 // The line of a saddle and a run: walked to write its entries, and before that to count them where the list may be too short.
-use crate::table::placed;
-use crate::table::start_of;
+use crate::run::line_start;
 use crate::walk::Walk;
 use crate::walk::entries_of;
+use limits::post_verdict;
+use post::mark::mark_at;
+use post::ring::ring_at;
 use surface::Entries;
+use surface::Grid;
+use surface::SADDLE;
 ghost use mathlib.Core.Path.{_≡_};
-ghost use mathlib.Core.List.{_++_};
-ghost use Prim.Native.Nat.{_+_, _*_, _≤_, _<_};
+ghost use mathlib.Core.List.{_∷_};
+ghost use Prim.Native.Nat.{_≤_};
 ghost use lib.Dec.{ltb};
-ghost use lib.ListN.{length, drop};
-ghost use Rattle.surface.specs.Plot.{plot};
-ghost use Rattle.surface.specs.Lists.{listOf};
+ghost use lib.ListN.{length};
+ghost use lib.Seq.{sets};
+ghost use Rattle.surface.specs.Plot.{plot, plotOf, posts};
+ghost use Rattle.surface.specs.Lines.{toward};
 ghost use Rattle.surface.specs.Calls.{lineAnswer, lineList};
-ghost use Rattle.surface.proofs.Walks.{Vertex};
-ghost use Rattle.plot.specs.Fits.{Levelled};
-ghost use Rattle.lines.specs.Directed.{walkOf, entryOf, lineOf, verdictOf};
+ghost use Rattle.lines.specs.Walks.{WalkOf, HasRoom, path};
 
-// Whether a list of length `room` takes the line whose walk this is. A list longer than the heights takes every line, so that nothing is counted.
-fn has_room(heights: &[i32], rows: usize, columns: usize, from: Walk, room: usize) -> bool
-    requires { ⌜ Levelled (plot rows columns (now heights)) × Vertex (rows * columns) (from .post) × (length (walkOf (plot rows columns (now heights)) (from .up) (from .post)) ≤ rows * columns) ⌝ }
-    ensures { λ r. ⌜ r ≡ ltb (length (walkOf (plot rows columns (now (heights .entry))) (from .up) (from .post))) room ⌝ }
+// Whether a list of length `room` takes a saddle and a walk's posts. A list longer than the heights takes every line, so that nothing is counted.
+fn has_room(heights: &[i32], grid: Grid, from: Walk, room: usize) -> bool
+    requires { ⌜ WalkOf (plotOf grid (now heights)) from × (length (path (plotOf grid (now heights)) from) ≤ posts (plotOf grid (now heights))) ⌝ }
+    ensures { λ r. ⌜ r ≡ ltb (length (path (plotOf grid (now (heights .entry))) from)) room ⌝ }
 {
     if room <= heights.len() {
-        return entries_of(heights, rows, columns, from) < room;
+        return entries_of(heights, grid, from) < room;
     }
     true
 }
 
 // Writes p, and then the posts of a walk until its end; gives how many entries that is.
-fn write_entries(
-    heights: &[i32],
-    rows: usize,
-    columns: usize,
-    p: usize,
-    from: Walk,
-    line: &mut [u16],
-) -> usize
-    requires { ⌜ Levelled (plot rows columns (now heights)) × (p < rows * columns) × Vertex (rows * columns) (from .post) × (1 + length (walkOf (plot rows columns (now heights)) (from .up) (from .post)) ≤ length (now line)) ⌝ }
-    ensures { λ r. ⌜ r ≡ 1 + length (walkOf (plot rows columns (now (heights .entry))) (from .up) (from .post)) ⌝ }
-    ensures { λ r. ⌜ now (line .exit) ≡ listOf (entryOf (plot rows columns (now (heights .entry))) (from .up) p (from .post)) r ++ drop r (now (line .entry)) ⌝ }
+fn write_entries(heights: &[i32], grid: Grid, p: usize, from: Walk, line: &mut [u16]) -> usize
+    requires { ⌜ HasRoom (plotOf grid (now heights)) p from (now line) ⌝ }
+    ensures { λ r. ⌜ r ≡ length (p ∷ path (plotOf grid (now (heights .entry))) from) ⌝ }
+    ensures { λ _. ⌜ now (line .exit) ≡ sets (now (line .entry)) 0 (p ∷ path (plotOf grid (now (heights .entry))) from) ⌝ }
 {
     line[0] = p as u16;
     let mut at = from;
     let mut i = 1;
     let end = loop {
         let here = at.post;
-        let ahead = at.next(heights, rows, columns);
+        let ahead = at.next(heights, grid);
         if ahead.post == here {
             break here;
         }
@@ -78,28 +74,33 @@ pub(crate) fn draw_line(
     up: bool,
     line: &mut [u16],
 ) -> Entries
-    ensures { λ r. ⌜ r ≡ lineAnswer (verdictOf (plot rows columns (now (heights .entry))) up post run (now (line .entry))) (lineOf (plot rows columns (now (heights .entry))) up post run) ⌝ }
-    ensures { λ _. ⌜ now (line .exit) ≡ lineList (verdictOf (plot rows columns (now (heights .entry))) up post run (now (line .entry))) (lineOf (plot rows columns (now (heights .entry))) up post run) (now (line .entry)) ⌝ }
+    ensures { λ r. ⌜ r ≡ lineAnswer (plot rows columns (now (heights .entry))) (toward up (plot rows columns (now (heights .entry)))) post run (now (line .entry)) ⌝ }
+    ensures { λ _. ⌜ now (line .exit) ≡ lineList (plot rows columns (now (heights .entry))) (toward up (plot rows columns (now (heights .entry)))) post run (now (line .entry)) ⌝ }
 {
-    let refusal = placed(rows, columns, heights, post);
+    let refusal = post_verdict(rows, columns, heights, post);
     if refusal.code != 0 {
         return refused(refusal.code, refusal.place);
     }
-    let r = rows as usize;
-    let c = columns as usize;
+    let grid = Grid {
+        rows: rows as usize,
+        columns: columns as usize,
+    };
     let p = post as usize;
-    let start = start_of(heights, r, c, up, p, run);
-    if start.code != 0 {
-        return refused(start.code, 0);
+    if mark_at(heights, grid, p) < SADDLE {
+        return refused(7, 0);
+    }
+    let start = line_start(heights, grid, up, p, ring_at(heights, grid, p), run);
+    if !start.found {
+        return refused(8, 0);
     }
     let from = Walk {
         post: start.post,
         up,
     };
-    if !has_room(heights, r, c, from, line.len()) {
+    if !has_room(heights, grid, from, line.len()) {
         return refused(9, 0);
     }
-    let count = write_entries(heights, r, c, p, from, line);
+    let count = write_entries(heights, grid, p, from, line);
     Entries {
         code: 0,
         place: 0,

@@ -1,17 +1,22 @@
-// The runs of a ring, lower ones, or upper ones where `up`: where one starts, and its lowest, or highest, member.
-use crate::order::is_lower;
-use crate::order::lower_of;
-use plot::ring::Ring;
+// The runs of a saddle's ring, lower ones, or upper ones where `up`: where one starts, and its lowest, or highest, member.
+use order::is_lower;
+use order::lower_of;
+use post::ring::Ring;
+use surface::Grid;
 ghost use mathlib.Core.Path.{_≡_};
-ghost use mathlib.Core.Bool.{true};
 ghost use mathlib.Core.List.{_++_};
 ghost use Prim.Native.Nat.{_+_, _≤_, _<_};
-ghost use lib.ListN.{length, getD, drop};
-ghost use Rattle.surface.specs.Lists.{takeWhile};
-ghost use Rattle.surface.specs.Edges.{lowest};
-ghost use Rattle.plot.specs.Scan.{toward};
-ghost use Rattle.plot.specs.Rings.{held};
-ghost use Rattle.lines.specs.Runs.{Round, StartsAt};
+ghost use lib.ListN.{length, getD};
+ghost use Rattle.surface.specs.Plot.{plotOf};
+ghost use Rattle.surface.specs.Lines.{toward};
+ghost use Rattle.post.specs.Rings.{held};
+ghost use Rattle.lines.specs.Runs.{Saddle, InRun, StartsAt, lowestFrom, Starts};
+
+// Where the line of a saddle and a run goes to from the saddle; not found where the saddle has no such run.
+pub struct Start {
+    pub found: bool,
+    pub post: usize,
+}
 
 // The member at place j of a ring; after the last comes the first once more.
 fn member_at(ring: Ring, j: usize) -> usize
@@ -27,16 +32,16 @@ fn member_at(ring: Ring, j: usize) -> usize
 }
 
 // The ring place of the first member of run number `run` of p, the length of the ring where there is no such run.
-pub fn run_at(heights: &[i32], up: bool, p: usize, ring: Ring, run: u32) -> usize
-    requires { ⌜ Round (now heights) up p ring ⌝ }
-    ensures { λ r. ⌜ StartsAt (λ q. toward (now (heights .entry)) up q p) (held ring) run r ⌝ }
+fn run_at(heights: &[i32], grid: Grid, up: bool, p: usize, ring: Ring, run: u32) -> usize
+    requires { ⌜ Saddle (plotOf grid (now heights)) p ring ⌝ }
+    ensures { λ r. ⌜ StartsAt (λ q. toward up (plotOf grid (now (heights .entry))) .lower q p) (held ring) run r ⌝ }
 {
     let len = ring.len;
-    let mut before = is_lower(heights, up, member_at(ring, len - 1), p);
+    let mut before = is_lower(heights, grid, up, member_at(ring, len - 1), p);
     let mut left = run;
     let mut i = 0;
     while i < len {
-        let here = is_lower(heights, up, member_at(ring, i), p);
+        let here = is_lower(heights, grid, up, member_at(ring, i), p);
         let starts = here & !before;
         if starts & (left == 0) {
             return i;
@@ -49,20 +54,38 @@ pub fn run_at(heights: &[i32], up: bool, p: usize, ring: Ring, run: u32) -> usiz
 }
 
 // The lowest member of the run of p that starts at place i, the highest where `up`.
-pub fn lowest_from(heights: &[i32], up: bool, p: usize, ring: Ring, i: usize) -> usize
-    requires { ⌜ Round (now heights) up p ring × (i < ring .len) × (toward (now heights) up (getD (held ring) i 0) p ≡ true) ⌝ }
-    ensures { λ r. ⌜ r ≡ lowest (toward (now (heights .entry)) up) (takeWhile (λ q. toward (now (heights .entry)) up q p) (drop i (held ring ++ held ring))) ⌝ }
+fn lowest_from(heights: &[i32], grid: Grid, up: bool, p: usize, ring: Ring, i: usize) -> usize
+    requires { ⌜ InRun (plotOf grid (now heights)) up p ring i ⌝ }
+    ensures { λ r. ⌜ r ≡ lowestFrom (toward up (plotOf grid (now (heights .entry)))) p (held ring) i ⌝ }
 {
     let twice = ring.len + ring.len;
     let mut best = member_at(ring, i);
     let mut j = i + 1;
     while j < twice {
         let q = member_at(ring, j);
-        if !is_lower(heights, up, q, p) {
+        if !is_lower(heights, grid, up, q, p) {
             return best;
         }
-        best = lower_of(heights, up, best, q);
+        best = lower_of(heights, grid, up, best, q);
         j += 1;
     }
     best
+}
+
+// Where the line of saddle p and run number `run` goes to from p.
+pub fn line_start(heights: &[i32], grid: Grid, up: bool, p: usize, ring: Ring, run: u32) -> Start
+    requires { ⌜ Saddle (plotOf grid (now heights)) p ring ⌝ }
+    ensures { λ r. ⌜ Starts (toward up (plotOf grid (now (heights .entry)))) p run r ⌝ }
+{
+    let place = run_at(heights, grid, up, p, ring, run);
+    if ring.len <= place {
+        return Start {
+            found: false,
+            post: p,
+        };
+    }
+    Start {
+        found: true,
+        post: lowest_from(heights, grid, up, p, ring, place),
+    }
 }

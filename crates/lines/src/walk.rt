@@ -1,14 +1,14 @@
 // A walk from post to post, down to a pit or up to a peak.
-use plot::next::next_at;
+use next::step::next_at;
+use surface::Grid;
+use surface::VIRTUAL_PIT;
 ghost use mathlib.Core.Path.{_≡_};
-ghost use Prim.Native.Nat.{_*_};
 ghost use lib.ListN.{length};
-ghost use Rattle.surface.specs.Plot.{plot};
-ghost use Rattle.surface.proofs.Walks.{Vertex};
-ghost use Rattle.plot.specs.Fits.{Levelled};
-ghost use Rattle.lines.specs.Directed.{nextOf, walkOf};
+ghost use Rattle.surface.specs.Plot.{plotOf};
+ghost use Rattle.surface.specs.Lines.{next, toward};
+ghost use Rattle.lines.specs.Walks.{WalkOf, path};
 
-// Where a walk stands, at 65535 in the virtual pit, and whether it goes up.
+// Where a walk stands, at a post or in the virtual pit, and whether it goes up.
 pub struct Walk {
     pub post: usize,
     pub up: bool,
@@ -16,32 +16,32 @@ pub struct Walk {
 
 impl Walk {
     // The walk a post on; at an end it stays.
-    pub fn next(self, heights: &[i32], rows: usize, columns: usize) -> Walk
-        requires { ⌜ Levelled (plot rows columns (now heights)) × Vertex (rows * columns) (self .post) ⌝ }
-        ensures { λ r. ⌜ r ≡ record { post = nextOf (plot rows columns (now (heights .entry))) (self .up) (self .post); up = self .up } ⌝ }
+    pub fn next(self, heights: &[i32], grid: Grid) -> Walk
+        requires { ⌜ WalkOf (plotOf grid (now heights)) self ⌝ }
+        ensures { λ r. ⌜ r ≡ record { post = next (toward (self .up) (plotOf grid (now (heights .entry)))) (self .post); up = self .up } ⌝ }
     {
         let post = self.post;
         let up = self.up;
-        if post == 65535 {
+        if post == VIRTUAL_PIT {
             return self;
         }
         Walk {
-            post: next_at(heights, rows, columns, post, up),
+            post: next_at(heights, grid, post, up),
             up,
         }
     }
 }
 
 // How many posts a walk goes by until its end, the first and the end among them.
-pub(crate) fn entries_of(heights: &[i32], rows: usize, columns: usize, from: Walk) -> usize
-    requires { ⌜ Levelled (plot rows columns (now heights)) × Vertex (rows * columns) (from .post) ⌝ }
-    ensures { λ r. ⌜ r ≡ length (walkOf (plot rows columns (now (heights .entry))) (from .up) (from .post)) ⌝ }
+pub(crate) fn entries_of(heights: &[i32], grid: Grid, from: Walk) -> usize
+    requires { ⌜ WalkOf (plotOf grid (now heights)) from ⌝ }
+    ensures { λ r. ⌜ r ≡ length (path (plotOf grid (now (heights .entry))) from) ⌝ }
 {
     let mut at = from;
     let mut entries: usize = 1;
     let count = loop {
         let here = at.post;
-        let ahead = at.next(heights, rows, columns);
+        let ahead = at.next(heights, grid);
         if ahead.post == here {
             break entries;
         }

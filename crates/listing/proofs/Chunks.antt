@@ -1,58 +1,55 @@
 -- The lines of one post after the other.
-use Prim.Native.Nat.{ℕ, zero, suc, _+_, _-_, _*_, _≤_, _<_}
+use Prim.Native.Nat.{ℕ, zero, suc, _+_, _-_, _≤_, _<_}
 use native.Mathlib.Omega.{arith}
 use mathlib.Core.Path.{_≡_, refl, sym, _∙_, ap}
 use mathlib.Core.Bool.{Bool, true, false, _&&_, true≢false}
-use mathlib.Core.List.{List, [], _++_, append-nil, append-assoc}
+use mathlib.Core.List.{List, [], _++_, flatten, append-nil, append-assoc}
 use borrow.Author.Tests.{lt-ltb, le-ltb, ltb-true, ltb-false, le-leb}
 use lib.Dec.{ltb, leb}
-use lib.IntN.{ℤ}
 use lib.ListN.{length}
-use Rattle.surface.specs.Plot.{Plot, posts}
 use Rattle.surface.specs.Lists.{listOf}
-use Rattle.surface.specs.Marks.{ringOf, markAt}
-use Rattle.surface.specs.Lines.{thalweg, ridge, daleAt, hillAt, dalesOf, hillsOf}
-use Rattle.surface.specs.Lister.{concat, saddleLines, postLines}
-use Rattle.surface.proofs.Bools.{either}
-use Rattle.surface.proofs.ListOf.{listOf-ext}
-use Rattle.surface.proofs.Listing.{concat-more}
-use Rattle.plot.specs.Rings.{Held}
-use Rattle.plot.specs.declared.ring.Ring.{Ring}
-use Rattle.lines.specs.Directed.{runsOf}
-use Rattle.listing.specs.Wrote.{Wrote}
-use Rattle.listing.specs.Lines.{runLines, linesFrom, Saddle, Parted, Listed}
+use Rattle.surface.specs.Plot.{Plot, posts}
+use Rattle.surface.specs.Marks.{markAt}
+use Rattle.surface.specs.Lines.{down, up, daleAt, hillAt, dalesOf, hillsOf}
+use Rattle.surface.specs.Lister.{linesText, saddleLines, postLines}
+use Rattle.surface.proofs.General.Bools.{either}
+use Rattle.surface.proofs.General.ListOf.{listOf-ext}
+use Rattle.post.specs.declared.ring.Ring.{Ring}
+use Rattle.lines.specs.Runs.{Saddle}
+use Rattle.listing.specs.Wrote.{runsRoom, postRoom, Wrote}
+use Rattle.listing.specs.Lines.{linesFrom, SaddleWith, Known, Listed}
 use Rattle.listing.proofs.Writing.{more, nothing, front}
+use Rattle.listing.proofs.Saddles.{flatten-more}
 
 first-false : (a b : Bool) → a && b ≡ false → b ≡ true → a ≡ false
 first-false true b h e = absurd (true≢false (sym e ∙ h))
 first-false false b h e = refl
 
-module _ {pl : Plot} {dales hills : List ℕ} (k : Parted pl dales hills) (p : ℕ) (post : p < posts pl) where
-  module _ {ring : Ring} (h : markAt pl p < 3 → ⊥) (r : Held ring (ringOf pl p)) where
-    pub downward : Saddle pl false p ring dales
-    unfolding dalesOf daleAt
-    downward = record { fits = k .fits; post = post; saddle = h; held = r; known = k .dalesKnown }
+module _ {pl : Plot} {dales hills : List ℕ} (k : Known pl dales hills) {p : ℕ} {ring : Ring} (s : Saddle pl p ring) where
+  pub downward : SaddleWith pl false p ring dales
+  unfolding dalesOf daleAt
+  downward = record { saddle = s; known = k .dalesKnown }
 
-    pub upward : Saddle pl true p ring hills
-    unfolding hillsOf hillAt
-    upward = record { fits = k .fits; post = post; saddle = h; held = r; known = k .hillsKnown }
+  pub upward : SaddleWith pl true p ring hills
+  unfolding hillsOf hillAt
+  upward = record { saddle = s; known = k .hillsKnown }
 
 module _ (pl : Plot) (p : ℕ) where
-  pub no-saddle : (l : List ℕ) (at : ℕ) → markAt pl p < 3 → Wrote 960 l l at (postLines pl p) at
+  pub no-saddle : (l : List ℕ) (at : ℕ) → markAt pl p < 3 → Wrote postRoom l l at (postLines pl p) at
   unfolding postLines
   no-saddle l at h = rw (lt-ltb _ 3 h) (nothing l at)
 
   -- water lines, then crest lines
-  pub both : {l l₁ l₂ : List ℕ} {at next last : ℕ} → (markAt pl p < 3 → ⊥)
-      → Wrote 480 l l₁ at (runLines pl false 84 p (length (runsOf pl false p))) next
-      → Wrote 480 l₁ l₂ next (runLines pl true 82 p (length (runsOf pl true p))) last
-      → Wrote 960 l l₂ at (postLines pl p) last
-  unfolding postLines saddleLines runLines thalweg ridge
-  both h w v = let m : 3 ≤ markAt pl p = omega arith in rw (le-ltb _ 3 m) (more w v)
+  pub both : {l l₁ l₂ : List ℕ} {at next last : ℕ} → 3 ≤ markAt pl p
+      → Wrote runsRoom l l₁ at (linesText pl 84 (down pl) p) next
+      → Wrote runsRoom l₁ l₂ next (linesText pl 82 (up pl) p) last
+      → Wrote postRoom l l₂ at (postLines pl p) last
+  unfolding postLines saddleLines
+  both h w v = rw (le-ltb _ 3 h) (more w v)
 
   -- posts one after the other
   from-none : linesFrom pl p p ≡ []
-  unfolding linesFrom listOf concat
+  unfolding linesFrom listOf flatten
   from-none = let e : p - p ≡ 0 = omega arith in rw e
 
   from-more : (next : ℕ) → p ≤ next → linesFrom pl p (next + 1) ≡ linesFrom pl p next ++ postLines pl next
@@ -60,11 +57,11 @@ module _ (pl : Plot) (p : ℕ) where
   from-more next h =
       let e : next + 1 - p ≡ (next - p) + 1 = omega arith in
       let f : p + (next - p) ≡ next = omega arith in
-      rw (e, concat-more (λ i. postLines pl (p + i)) (next - p), f)
+      rw (e, flatten-more (λ i. postLines pl (p + i)) (next - p), f)
 
   -- the lines up to post `next` are written, in a list with room after place `last`
   pub record Going (l l₁ : List ℕ) (last next bytes : ℕ) : Type 0 where
-    pub wrote : Wrote (last + 960) l l₁ 0 (linesFrom pl p next) bytes
+    pub wrote : Wrote (last + postRoom) l l₁ 0 (linesFrom pl p next) bytes
     pub size : length l₁ ≡ length l
     pub low : p ≤ next
     pub first : next ≡ p → bytes ≡ 0
@@ -73,7 +70,7 @@ module _ (pl : Plot) (p : ℕ) where
   going-none l last = record { wrote = rw from-none (nothing l 0); size = refl; low = omega arith; first = λ _. refl }
 
   pub going-more : {l l₁ l₂ : List ℕ} {last next bytes more′ : ℕ} → Going l l₁ last next bytes → bytes ≤ last
-      → Wrote 960 l₁ l₂ bytes (postLines pl next) more′
+      → Wrote postRoom l₁ l₂ bytes (postLines pl next) more′
       → length l₂ ≡ length l₁
       → Going l l₂ last (next + 1) more′
   going-more {next = next} g h w e =
@@ -85,7 +82,7 @@ module _ (pl : Plot) (p : ℕ) where
         first = λ f. absurd (omega (arith, g .low));
       }
 
-  pub going-end : {l l₁ : List ℕ} {last next bytes : ℕ} → Going l l₁ last next bytes → last + 960 ≡ length l → next ≤ posts pl
+  pub going-end : {l l₁ : List ℕ} {last next bytes : ℕ} → Going l l₁ last next bytes → last + postRoom ≡ length l → next ≤ posts pl
       → (ltb next (posts pl) && leb bytes last) ≡ false
       → Listed pl p l l₁ (record { post = next; bytes = bytes })
   going-end {l} {l₁} {last} {next} {bytes} g e h stop =
@@ -101,11 +98,11 @@ module _ (pl : Plot) (p : ℕ) where
           absurd (omega (arith, ltb-false next (posts pl) (first-false _ _ stop (le-leb bytes last none)))))
 
 -- pieces of the text, one after the other
-pub from-zero : (pl : Plot) (n : ℕ) → linesFrom pl 0 n ≡ concat (listOf (postLines pl) n)
+pub from-zero : (pl : Plot) (n : ℕ) → linesFrom pl 0 n ≡ flatten (listOf (postLines pl) n)
 unfolding linesFrom
 from-zero pl n =
     let e : n - 0 ≡ n = omega arith in
-    rw e (ap concat (listOf-ext (λ i. postLines pl (0 + i)) (postLines pl) n (λ i _. let f : 0 + i ≡ i = omega arith in rw f)))
+    rw e (ap flatten (listOf-ext (λ i. postLines pl (0 + i)) (postLines pl) n (λ i _. let f : 0 + i ≡ i = omega arith in rw f)))
 
 -- all posts' lines are those up to a post and those from it on
 pub from-both : (pl : Plot) (p q n : ℕ) → p ≤ q → linesFrom pl p q ++ linesFrom pl q (q + n) ≡ linesFrom pl p (q + n)

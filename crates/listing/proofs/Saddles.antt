@@ -1,112 +1,128 @@
--- The lines of a saddle, by the ring places at which its runs start.
-use Prim.Native.Nat.{ℕ, _+_, _*_, _≤_, _<_}
+-- The lines of a saddle, run by run.
+use Prim.Native.Nat.{ℕ, zero, suc, _+_, _*_, _≤_, _<_}
 use native.Mathlib.Omega.{arith}
-use mathlib.Core.Path.{_≡_, sym, _∙_, ap}
+use native.Mathlib.Numerals.{add-one}
+use mathlib.Core.Path.{_≡_, refl, sym, _∙_, ap}
 use mathlib.Core.Logic.{_⊎_, ⊎-elim}
-use mathlib.Core.Bool.{Bool, true}
-use mathlib.Core.List.{List, [], _∷_, _++_}
-use borrow.Author.Tests.{eq-eqb, ne-eqb}
-use lib.IntN.{ℤ}
-use lib.ListN.{length, getD, drop}
-use Rattle.surface.specs.Lists.{listOf, takeWhile, lastOr}
-use Rattle.surface.specs.Plot.{Plot, posts, virtualPit}
-use Rattle.surface.specs.Edges.{lowest}
-use Rattle.surface.specs.Marks.{ringOf}
-use Rattle.surface.specs.Lines.{line, lowestOf}
-use Rattle.surface.specs.Lister.{concat, decimal, textLine, endName, lineText}
-use Rattle.surface.proofs.ListOf.{length-listOf, getD-listOf}
-use Rattle.surface.proofs.Listing.{concat-more, walk-last, runs-few}
-use Rattle.surface.proofs.RunMembers.{runs-run}
-use Rattle.surface.proofs.Walks.{Vertex, end-stop, pit-stop}
-use Rattle.plot.specs.Scan.{toward}
-use Rattle.plot.specs.Rings.{held}
-use Rattle.plot.specs.declared.ring.Ring.{Ring}
-use Rattle.lines.specs.Directed.{after, runsOf, lineOf}
-use Rattle.lines.specs.Runs.{StartsAt, Round}
-use Rattle.lines.proofs.Tabled.{round}
-use Rattle.plot.proofs.Descents.{descent, fit}
-use Rattle.listing.specs.Wrote.{Wrote}
-use Rattle.listing.specs.Lines.{endIn, runLines, Saddle}
+use mathlib.Core.Bool.{Bool, true, false, cond, not, _&&_}
+use mathlib.Core.List.{List, [], _∷_, _++_, flatten, append-assoc, append-nil}
+use borrow.Author.Tests.{eq-eqb, ne-eqb, ltb-true, ltb-false}
+use lib.ListN.{length, getD}
+use Rattle.surface.specs.Lists.{listOf, keep, all, takeWhile, lastOr}
+use Rattle.surface.specs.Plot.{Plot, posts, virtualPit, Vertex}
+use Rattle.surface.specs.Edges.{runs, runsFrom}
+use Rattle.surface.specs.Lines.{Descent, isEnd, next, walk, end, runsOf, line, toward}
+use Rattle.surface.specs.Lister.{decimal, textLine, endName, lineText}
+use Rattle.surface.proofs.General.ListOf.{length-listOf, getD-listOf}
+use Rattle.surface.proofs.AnyOrder.Grid.{not-pit}
+use Rattle.surface.proofs.AnyOrder.Walks.{Falling, end-stop, pit-stop}
+use Rattle.surface.proofs.OfPlots.Instance.{toward-falling}
+use Rattle.post.specs.declared.ring.Ring.{Ring}
+use Rattle.lines.specs.declared.run.Start.{Start}
+use Rattle.lines.specs.Runs.{Starts}
+use Rattle.lines.proofs.Ringed.{toward-ring}
+use Rattle.lines.proofs.Called.{start-vertex}
+use Rattle.listing.specs.Wrote.{lineRoom, Wrote}
+use Rattle.listing.specs.Lines.{endFrom, runLines, SaddleWith}
 use Rattle.listing.proofs.Writing.{more, within, nothing}
 
+flatten-append : {A : Type 0} (l m : List (List A)) → flatten (l ++ m) ≡ flatten l ++ flatten m
+unfolding flatten
+flatten-append [] m = refl
+flatten-append (x ∷ l) m = rw (flatten-append l m) (sym (append-assoc x (flatten l) (flatten m)))
+
+-- one text more
+pub flatten-more : {A : Type 0} (f : ℕ → List A) (n : ℕ) → flatten (listOf f (n + 1)) ≡ flatten (listOf f n) ++ f n
+unfolding flatten listOf
+flatten-more f n = rw (add-one, flatten-append (listOf f n) (f n ∷ []), append-nil (f n))
+
+-- a walk's last entry is where it ends
+walk-last : {n : ℕ} {d : Descent} → Falling n d → (x m p : ℕ) → lastOr x (walk d m p) ≡ end d m p
+unfolding lastOr walk end
+walk-last law x zero p = refl
+walk-last {d = d} law x (suc m) p = go (isEnd d p) refl (walk-last law p m (next d p))
+  where
+    w : List ℕ
+    w = walk d m (next d p)
+
+    go : (b : Bool) → isEnd d p ≡ b → lastOr p w ≡ end d m (next d p) → lastOr p (cond b [] w) ≡ end d m (next d p)
+    go true e h = sym (end-stop law (suc m) p e)
+    go false e h = h
+
+-- a ring has no more runs than members
+runsFrom-few : (s : ℕ → Bool) (b : Bool) (l c : List ℕ) → length (runsFrom s b l c) ≤ length l
+unfolding runsFrom
+runsFrom-few s b [] c = omega arith
+runsFrom-few s b (x ∷ l) c = go (s x && not b) (runsFrom-few s (s x) l c)
+  where
+    go : (t : Bool) → length (runsFrom s (s x) l c) ≤ length l → length (keep t (takeWhile s (x ∷ l ++ c)) ++ runsFrom s (s x) l c) ≤ suc (length l)
+    go true h = omega arith
+    go false h = omega arith
+
+runs-few : (s : ℕ → Bool) (l : List ℕ) → length (runs s l) ≤ length l
+unfolding runs
+runs-few s [] = omega arith
+runs-few s (x ∷ l) = go (all s (x ∷ l)) (runsFrom-few s (s (lastOr x l)) (x ∷ l) (x ∷ l))
+  where
+    go : (b : Bool) → length (runsFrom s (s (lastOr x l)) (x ∷ l) (x ∷ l)) ≤ length (x ∷ l)
+        → length (cond b ((x ∷ l) ∷ []) (runsFrom s (s (lastOr x l)) (x ∷ l) (x ∷ l))) ≤ length (x ∷ l)
+    go true h = omega arith
+    go false h = h
+
 -- the end from a vertex
-pub end-pit : (ends : List ℕ) (v : ℕ) → v ≡ 65535 → 65535 ≡ endIn ends v
-unfolding virtualPit
-end-pit ends v e = rw (eq-eqb v 65535 e)
+pub end-pit : (ends : List ℕ) (v : ℕ) → v ≡ virtualPit → virtualPit ≡ endFrom ends v
+end-pit ends v e = rw (eq-eqb v virtualPit e)
 
-pub end-post : (ends : List ℕ) (v : ℕ) → (v ≡ 65535 → ⊥) → getD ends v 0 ≡ endIn ends v
-unfolding virtualPit
-end-post ends v h = rw (ne-eqb v 65535 h)
+pub end-post : (ends : List ℕ) (v : ℕ) → (v ≡ virtualPit → ⊥) → getD ends v 0 ≡ endFrom ends v
+end-post ends v h = rw (ne-eqb v virtualPit h)
 
-pub vertex-in : (n v : ℕ) → Vertex n v → (v ≡ 65535 → ⊥) → v < n
-unfolding virtualPit
-vertex-in n v w h = ⊎-elim (λ (k : v < n). k) (λ (k : v ≡ virtualPit). absurd (h k)) w
+module _ {pl : Plot} {up : Bool} {p : ℕ} {ring : Ring} {ends : List ℕ} (s : SaddleWith pl up p ring ends) where
+  abbrev d : Descent
+  d = toward up pl
 
-module _ {pl : Plot} {up : Bool} {p : ℕ} {ring : Ring} {ends : List ℕ} (s : Saddle pl up p ring ends) where
-  abbrev low : ℕ → Bool
-  low q = toward pl.heights up q p
+  law : Falling (posts pl) d
+  law = toward-falling pl (s .saddle .post .valid .sides) up
 
-  pub rounded : Round pl.heights up p ring
-  rounded = round (s .fits) up p (s .post) ring (s .saddle) (s .held)
-
-  pub few-runs : length (runsOf pl up p) ≤ 8
-  few-runs = omega (arith, runs-few low (ringOf pl p), s .held .len, s .held .low)
+  pub few-runs : length (runsOf d p) ≤ 8
+  few-runs = omega (arith, runs-few (λ q. d .lower q p) (d .ring p), ap length (toward-ring pl up p), s .saddle .holds .len, s .saddle .holds .low)
 
   -- the end by the list of ends is the end of the walk
-  end-known : (v : ℕ) → Vertex (posts pl) v → endIn ends v ≡ after pl up (posts pl) v
-  unfolding virtualPit
+  end-known : (v : ℕ) → Vertex (posts pl) v → endFrom ends v ≡ end d (posts pl) v
   end-known v w =
-      let d = descent (s .fits) up in
       ⊎-elim
       (λ (k : v < posts pl).
-      sym (end-post ends v (λ e. absurd (omega (arith, fit (s .fits))))) ∙ rw (s .known) (getD-listOf (after pl up (posts pl)) (posts pl) v 0 k))
-      (λ (k : v ≡ virtualPit). sym (end-pit ends v k) ∙ rw k (sym (end-stop d (posts pl) virtualPit (pit-stop d))))
+      sym (end-post ends v (not-pit (s .saddle .post .valid .sides) k)) ∙ rw (s .known) (getD-listOf (end d (posts pl)) (posts pl) v 0 k))
+      (λ (k : v ≡ virtualPit). sym (end-pit ends v k) ∙ rw k (sym (end-stop law (posts pl) virtualPit (pit-stop law))))
       w
 
-  module _ (run place : ℕ) (k : StartsAt low (held ring) run place) where
-    found : StartsAt low (ringOf pl p) run place
-    found = rw (s .held .members) at k
+  module _ {run : ℕ} {r : Start} (k : Starts d p run r) where
+    pub none : r .found ≡ false → length (runsOf d p) ≤ run
+    none e = ltb-false _ _ (sym (k .found) ∙ e)
 
-    pub none : ring .len ≤ place → length (runsOf pl up p) ≤ run
-    none h = found .none (omega (arith, s .held .len))
+    module _ (e : r .found ≡ true) where
+      pub numbered : run < length (runsOf d p)
+      numbered = ltb-true _ _ (sym (k .found) ∙ e)
 
-    module _ (h : place < ring .len) where
-      inside : place < length (ringOf pl p)
-      inside = omega (arith, s .held .len)
+      plain : Vertex (posts pl) (r .post)
+      plain = start-vertex law (s .saddle .post .post) numbered (k .post e)
 
-      pub numbered : run < length (runsOf pl up p)
-      numbered = found .numbered inside
+      pub vertex : Vertex (length ends) (r .post)
+      vertex = rw (s .known, length-listOf) plain
 
-      pub passes : toward pl.heights up (getD (held ring) place 0) p ≡ true
-      passes = rw (s .held .members) (found .passes inside)
+      -- the line of the run ends where the walk does from what is picked of the run
+      line-end : lastOr virtualPit (line d (posts pl) p run) ≡ endFrom ends (r .post)
+      unfolding lastOr line
+      line-end = walk-last law p (posts pl) _ ∙ ap (end d (posts pl)) (sym (k .post e)) ∙ sym (end-known (r .post) plain)
 
-      module _ (q : ℕ) (e : q ≡ lowest (toward pl.heights up) (takeWhile low (drop place (held ring ++ held ring)))) where
-        picked : q ≡ lowestOf (toward pl.heights up) p (getD (runsOf pl up p) run [])
-        picked = rw (s .held .members) at e ∙ sym (ap (lowest (toward pl.heights up)) (found .run inside))
+      pub line-more : {l l₁ l₂ : List ℕ} {at next last : ℕ} (letter end : ℕ) → end ≡ endFrom ends (r .post)
+          → Wrote (lineRoom * run) l l₁ at (runLines pl letter d p run) next
+          → Wrote lineRoom l₁ l₂ next (textLine letter (decimal p ∷ decimal run ∷ endName end ∷ [])) last
+          → Wrote (lineRoom * (run + 1)) l l₂ at (runLines pl letter d p (run + 1)) last
+      unfolding runLines lineText
+      line-more letter end f w v =
+          let t : lastOr virtualPit (line d (posts pl) p run) ≡ end = line-end ∙ sym f in
+          rw (flatten-more (λ run. lineText letter p run (line d (posts pl) p run)) run, t) (within (omega arith) (more w v))
 
-        plain : Vertex (posts pl) q
-        plain =
-            let d = descent (s .fits) up in
-            let r = runs-run low (ringOf pl p) run numbered in
-            rw picked (d .ringVertex p _ (s .post) (r .member _ (d .picksMember p (r .some) _ (r .there)) .0))
-
-        pub vertex : Vertex (length ends) q
-        vertex = rw (s .known, length-listOf) plain
-
-        -- the line of the run ends where the walk from its lowest member does
-        line-end : lastOr virtualPit (lineOf pl up p run) ≡ endIn ends q
-        unfolding lastOr line
-        line-end = walk-last (descent (s .fits) up) p (posts pl) _ ∙ ap (after pl up (posts pl)) (sym picked) ∙ sym (end-known q plain)
-
-        pub line-more : {l l₁ l₂ : List ℕ} {at next last : ℕ} (letter end : ℕ) → end ≡ endIn ends q
-            → Wrote (60 * run) l l₁ at (runLines pl up letter p run) next
-            → Wrote 60 l₁ l₂ next (textLine letter (decimal p ∷ decimal run ∷ endName end ∷ [])) last
-            → Wrote (60 * (run + 1)) l l₂ at (runLines pl up letter p (run + 1)) last
-        unfolding runLines lineText
-        line-more letter end f w v =
-            let t : lastOr virtualPit (lineOf pl up p run) ≡ end = line-end ∙ sym f in
-            rw (concat-more (λ run. lineText pl letter p run (lineOf pl up p run)) run, t) (within (omega arith) (more w v))
-
-pub no-lines : (pl : Plot) (up : Bool) (letter p : ℕ) (l : List ℕ) (at : ℕ) → Wrote 0 l l at (runLines pl up letter p 0) at
-unfolding runLines listOf concat
-no-lines pl up letter p l at = nothing l at
+pub no-lines : (pl : Plot) (letter : ℕ) (d : Descent) (p : ℕ) (l : List ℕ) (at : ℕ) → Wrote 0 l l at (runLines pl letter d p 0) at
+unfolding runLines listOf flatten
+no-lines pl letter d p l at = nothing l at

@@ -5,6 +5,16 @@ use mathlib.Core.List.{List}
 use lib.ListN.{length}
 use lib.Seq.{sets}
 
+-- the most bytes that a line takes, the lines of a saddle in one direction, and those of a post
+abbrev pub lineRoom : ℕ
+lineRoom = 60
+
+abbrev pub runsRoom : ℕ
+runsRoom = 480
+
+abbrev pub postRoom : ℕ
+postRoom = 960
+
 -- `new` is `old` with the text, of at most `most` bytes, from place `at` on, and `next` is the place after it
 pub record Wrote (most : ℕ) (old new : List ℕ) (at : ℕ) (text : List ℕ) (next : ℕ) : Type 0 where
   pub bytes : new ≡ sets old at text

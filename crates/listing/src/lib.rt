@@ -1,4 +1,4 @@
-// Document 01, "The lister": the text that it prints, written into a lent list of bytes.
+// docs/SPECIFICATION.md, "Lister": the text that it prints, written into a lent list of bytes.
 pub mod first;
 pub mod posts;
-pub mod text;
+mod text;

@@ -1,11 +1,12 @@
 // The lines of the lister, one at a time. Each function writes at a place of a lent list, and gives the place after what it wrote.
+use surface::VIRTUAL_PIT;
 ghost use mathlib.Core.List.{[], _∷_};
 ghost use Prim.Native.Nat.{_+_, _≤_, _<_};
 ghost use lib.ListN.{length};
 ghost use Rattle.surface.specs.Lister.{digits, decimal, textLine, endName, refusedText};
-ghost use Rattle.listing.specs.Wrote.{Wrote};
+ghost use Rattle.listing.specs.Wrote.{lineRoom, Wrote};
 
-pub(crate) fn put_byte(buffer: &mut [u8], at: usize, byte: u8) -> usize
+fn put_byte(buffer: &mut [u8], at: usize, byte: u8) -> usize
     requires { ⌜ at < length (now buffer) ⌝ }
     ensures { λ r. ⌜ Wrote 1 (now (buffer .entry)) (now (buffer .exit)) at (byte ∷ []) r ⌝ }
 {
@@ -29,7 +30,7 @@ fn put_digits(buffer: &mut [u8], at: usize, more: usize, n: u32) -> usize
 }
 
 // A number in decimal.
-pub fn put_decimal(buffer: &mut [u8], at: usize, n: u32) -> usize
+fn put_decimal(buffer: &mut [u8], at: usize, n: u32) -> usize
     requires { ⌜ at + 10 ≤ length (now buffer) ⌝ }
     ensures { λ r. ⌜ Wrote 10 (now (buffer .entry)) (now (buffer .exit)) at (decimal n) r ⌝ }
 {
@@ -50,7 +51,7 @@ fn put_end(buffer: &mut [u8], at: usize, end: u32) -> usize
     requires { ⌜ at + 11 ≤ length (now buffer) ⌝ }
     ensures { λ r. ⌜ Wrote 11 (now (buffer .entry)) (now (buffer .exit)) at (32 ∷ endName end) r ⌝ }
 {
-    if end == 65535 {
+    if end as usize == VIRTUAL_PIT {
         let letter = put_byte(buffer, at, b' ');
         return put_byte(buffer, letter, b'V');
     }
@@ -58,7 +59,7 @@ fn put_end(buffer: &mut [u8], at: usize, end: u32) -> usize
 }
 
 // N, rows, columns, peaks, pits, saddles.
-pub fn put_head(
+pub(crate) fn put_head(
     buffer: &mut [u8],
     at: usize,
     rows: u32,
@@ -67,8 +68,8 @@ pub fn put_head(
     pits: u32,
     saddles: u32,
 ) -> usize
-    requires { ⌜ at + 60 ≤ length (now buffer) ⌝ }
-    ensures { λ r. ⌜ Wrote 60 (now (buffer .entry)) (now (buffer .exit)) at (textLine 78 (decimal rows ∷ decimal columns ∷ decimal peaks ∷ decimal pits ∷ decimal saddles ∷ [])) r ⌝ }
+    requires { ⌜ at + lineRoom ≤ length (now buffer) ⌝ }
+    ensures { λ r. ⌜ Wrote lineRoom (now (buffer .entry)) (now (buffer .exit)) at (textLine 78 (decimal rows ∷ decimal columns ∷ decimal peaks ∷ decimal pits ∷ decimal saddles ∷ [])) r ⌝ }
 {
     let first = put_byte(buffer, at, b'N');
     let second = put_field(buffer, first, rows);
@@ -80,9 +81,16 @@ pub fn put_head(
 }
 
 // A water line, letter T, or a crest line, letter R: its saddle, run and end.
-pub fn put_line(buffer: &mut [u8], at: usize, letter: u8, saddle: u32, run: u32, end: u32) -> usize
-    requires { ⌜ at + 60 ≤ length (now buffer) ⌝ }
-    ensures { λ r. ⌜ Wrote 60 (now (buffer .entry)) (now (buffer .exit)) at (textLine letter (decimal saddle ∷ decimal run ∷ endName end ∷ [])) r ⌝ }
+pub(crate) fn put_line(
+    buffer: &mut [u8],
+    at: usize,
+    letter: u8,
+    saddle: u32,
+    run: u32,
+    end: u32,
+) -> usize
+    requires { ⌜ at + lineRoom ≤ length (now buffer) ⌝ }
+    ensures { λ r. ⌜ Wrote lineRoom (now (buffer .entry)) (now (buffer .exit)) at (textLine letter (decimal saddle ∷ decimal run ∷ endName end ∷ [])) r ⌝ }
 {
     let first = put_byte(buffer, at, letter);
     let second = put_field(buffer, first, saddle);
@@ -92,9 +100,9 @@ pub fn put_line(buffer: &mut [u8], at: usize, letter: u8, saddle: u32, run: u32,
 }
 
 // A refusal: E, number, place.
-pub fn put_refused(buffer: &mut [u8], at: usize, code: u32, place: u32) -> usize
-    requires { ⌜ at + 60 ≤ length (now buffer) ⌝ }
-    ensures { λ r. ⌜ Wrote 60 (now (buffer .entry)) (now (buffer .exit)) at (refusedText code place) r ⌝ }
+pub(crate) fn put_refused(buffer: &mut [u8], at: usize, code: u32, place: u32) -> usize
+    requires { ⌜ at + lineRoom ≤ length (now buffer) ⌝ }
+    ensures { λ r. ⌜ Wrote lineRoom (now (buffer .entry)) (now (buffer .exit)) at (refusedText code place) r ⌝ }
 {
     let first = put_byte(buffer, at, b'E');
     let second = put_field(buffer, first, code);

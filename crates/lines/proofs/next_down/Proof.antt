@@ -1,16 +1,15 @@
 -- The law in one direction.
-use Rattle.surface.specs.Lines.{nextDown}
 use Rattle.surface.specs.Calls.{nextDownAnswer}
 use borrow.Author.Needs.{needs}
 use Rattle.lines.proofs.next_down.Statement.{statement}
 use Rattle.lines.proofs.next_down.Tie as tie
 
-next-requires : tie.Need-next-requires
-next-requires c κs = search needs
+next-post-requires : tie.Need-next-post-requires
+next-post-requires c κs = search needs
 
 returns : tie.Need-returns
-unfolding nextDownAnswer nextDown
-returns c = c .next .ensures
+unfolding nextDownAnswer
+returns c = c .next-post .ensures
 
 pub next-down-spec : {M : Type 1} → statement M
-next-down-spec = tie.close (tie.spec next-requires returns)
+next-down-spec = tie.close (tie.spec next-post-requires returns)

@@ -1,5 +1,4 @@
 -- The law in one direction.
-use Rattle.surface.specs.Lines.{ridge}
 use Rattle.surface.specs.Calls.{ridgeAnswer, ridgeList}
 use borrow.Author.Needs.{needs}
 use Rattle.lines.proofs.ridge.Statement.{statement}
@@ -12,7 +11,7 @@ same-length : tie.Need-same-length
 same-length c = search needs
 
 returns : tie.Need-returns
-unfolding ridge ridgeAnswer ridgeList
+unfolding ridgeAnswer ridgeList
 returns c = c .before .before .draw-line .ensures
 
 pub ridge-spec : {M : Type 1} → statement M

@@ -1,5 +1,4 @@
 -- The law in one direction.
-use Rattle.surface.specs.Lines.{thalweg}
 use Rattle.surface.specs.Calls.{thalwegAnswer, thalwegList}
 use borrow.Author.Needs.{needs}
 use Rattle.lines.proofs.thalweg.Statement.{statement}
@@ -12,7 +11,7 @@ same-length : tie.Need-same-length
 same-length c = search needs
 
 returns : tie.Need-returns
-unfolding thalweg thalwegAnswer thalwegList
+unfolding thalwegAnswer thalwegList
 returns c = c .before .before .draw-line .ensures
 
 pub thalweg-spec : {M : Type 1} → statement M

@@ -1,127 +1,154 @@
 -- By the row that refuses the line, or by its entries.
-use Prim.Native.Nat.{ℕ, _≤_, _<_}
-use mathlib.Core.Path.{sym, _∙_}
-use mathlib.Core.List.{List}
 use native.Mathlib.Omega.{arith}
+use mathlib.Core.Path.{_≡_, sym, _∙_, ap}
+use Prim.Native.Nat.{_≤_, _<_}
+use mathlib.Core.Bool.{true}
 use borrow.Author.Tests.{ltb-true, ltb-false, not-true, not-false}
 use lib.ListN.{length}
-use Rattle.surface.specs.Plot.{plot}
-use Rattle.lines.specs.Directed.{walkOf}
-use Rattle.lines.proofs.Walking.{length-low}
-use Rattle.lines.proofs.Lined.{not-placed, not-started, short, too-long, drawn}
+use Rattle.surface.specs.Plot.{Plot, plot, posts, PostOf}
+use Rattle.surface.specs.Marks.{markAt}
+use Rattle.surface.specs.Refusals.{verdict}
+use Rattle.surface.specs.Lines.{Descent, walk, runsOf, lineStart, toward}
+use Rattle.surface.specs.declared.Answer.{Answer}
+use Rattle.surface.proofs.AnyOrder.Walks.{Falling}
+use Rattle.surface.proofs.OfPlots.Instance.{toward-falling}
+use Rattle.lines.specs.declared.walk.Walk.{Walk}
+use Rattle.lines.specs.Walks.{WalkOf, path}
+use Rattle.lines.proofs.Walking.{path-low}
+use Rattle.lines.proofs.Called.{postRows, post-valid, no-post, no-saddle, no-run, too-long, drawn, start-vertex, start-short}
 use borrow.Author.Needs.{needs}
 use Rattle.lines.proofs.line.draw_line.Statement.{statement}
 use Rattle.lines.proofs.line.draw_line.Tie as tie
 
-placed-requires : tie.Need-placed-requires
-placed-requires c κs = search needs
+abbrev start : tie.Else1 → tie.Start
+start c = c .before .before .before .before
+
+abbrev asked : tie.Else1 → Plot
+asked c = let a = start c .args in plot (a .rows) (a .columns) (a .heights .now)
+
+-- the post is one of a plot
+passed : (c : tie.Else1) → verdict (postRows (asked c) (start c .args .post)) .code ≡ 0
+passed c = sym (ap (λ (a : Answer). a .code) (c .before .before .post-verdict .ensures)) ∙ c .if1 .left
+
+post : (c : tie.Else1) → PostOf (asked c) (start c .args .post)
+post c = post-valid (asked c) _ (passed c)
+
+-- and a saddle
+saddle : (c : tie.Else2) → let e = c .before .before in 3 ≤ markAt (asked e) (start e .args .post)
+saddle c = omega (arith, c .before .mark-at .ensures, c .if2 .left)
+
+-- it has the run
+abbrev accepted : tie.Else3 → tie.Else1
+accepted c = c .before .before .before .before .before .before
+
+abbrev descent : tie.Else3 → Descent
+descent c = toward (start (accepted c) .args .up) (asked (accepted c))
+
+found : (c : tie.Else3) → c .before .before .line-start .result .found ≡ true
+found c = not-false _ (c .if3 .left)
+
+has : (c : tie.Else3) → let a = start (accepted c) .args in a .run < length (runsOf (descent c) (a .post))
+has c = ltb-true _ _ (sym (c .before .before .line-start .ensures .found) ∙ found c)
+
+goes : (c : tie.Else3) → let a = start (accepted c) .args in c .before .before .line-start .result .post ≡ lineStart (descent c) (a .post) (a .run)
+goes c = c .before .before .line-start .ensures .post (found c)
+
+-- the walk from where its line goes to
+abbrev walking : tie.Else3 → Walk
+walking c = record { post = c .before .before .line-start .result .post; up = start (accepted c) .args .up }
+
+law : (c : tie.Else3) → Falling (posts (asked (accepted c))) (descent c)
+law c = toward-falling (asked (accepted c)) (post (accepted c) .valid .sides) (start (accepted c) .args .up)
+
+stands : (c : tie.Else3) → WalkOf (asked (accepted c)) (walking c)
+stands c = let p = post (accepted c) in record { valid = p .valid; vertex = start-vertex (law c) (p .post) (has c) (goes c) }
+
+-- the list has room
+room : (c : tie.Else4) → let e = c .before .before in length (path (asked (accepted e)) (walking e)) < length (start (accepted e) .args .line .now)
+room c = ltb-true _ _ (sym (c .before .has-room .ensures) ∙ not-false _ (c .if4 .left))
+
+post-verdict-requires : tie.Need-post-verdict-requires
+post-verdict-requires c κs = search needs
 
 refused-requires : tie.Need-refused-requires
 refused-requires c κs = search needs
 
 returns : tie.Need-returns
 returns c =
-    let i = c .before in
-    let p = i .before .before in
-    let a = p .before .before .args in
-    rw (c .refused .ensures) (not-placed (p .placed .ensures) (a .up) (a .run) (a .line .now) (i .if1 .taken))
+    let at-start = c .before .before .before .before .before in
+    let a = at-start .args in
+    rw (c .refused .ensures)
+    (no-post _ _ _ (a .run) (a .line .now) _ (c .before .before .before .post-verdict .ensures) (c .before .if1 .taken))
 
-start-of-requires : tie.Need-start-of-requires
-start-of-requires c κs = let l = c .before .before .placed .ensures .levelled (c .if1 .left) in (l .0 .fits, l .1)
+mark-at-requires : tie.Need-mark-at-requires
+mark-at-requires c κs = post c
 
 refused-requires-2 : tie.Need-refused-requires-2
 refused-requires-2 c κs = search needs
 
 returns-2 : tie.Need-returns-2
 returns-2 c =
-    let i = c .before in
-    let s = i .before .before in
-    let p = s .before .before .before in
-    let a = p .before .before .args in
     rw (c .refused2 .ensures)
-    (not-started (p .placed .ensures) (a .up) (a .run) (a .line .now) (s .before .if1 .left) (s .start-of .ensures) (i .if2 .taken))
+    (no-saddle _ _ _ _ _ (passed (c .before .before .before)) (omega (arith, c .before .before .mark-at .ensures, c .before .if2 .taken)))
 
--- the line's walk
-abbrev path : tie.Else2 → List ℕ
-path c =
-    let s = c .before .before in
-    let a = s .before .before .before .before .before .args in
-    walkOf (plot (a .rows) (a .columns) (a .heights .now)) (a .up) (s .start-of .result .post)
+ring-at-requires : tie.Need-ring-at-requires
+ring-at-requires c κs = post (c .before .before)
 
-low : (c : tie.Else2) → length (path c) ≤ 14401
-low c =
-    let s = c .before .before in
-    let p = s .before .before .before in
-    length-low (p .placed .ensures .levelled (s .before .if1 .left) .0 .fits) (p .before .before .args .up) (s .start-of .result .post)
-
-has-room-requires : tie.Need-has-room-requires
-has-room-requires c κs =
-    let s = c .before .before in
-    let p = s .before .before .before in
-    let a = p .before .before .args in (
-      p .placed .ensures .levelled (s .before .if1 .left) .0,
-      s .start-of .ensures .vertex (c .if2 .left),
-      short (p .placed .ensures) (a .up) (a .run) (a .line .now) (s .before .if1 .left) (s .start-of .ensures) (c .if2 .left),
-    )
+line-start-requires : tie.Need-line-start-requires
+line-start-requires c κs = record { post = post (c .before .before .before); saddle = saddle (c .before); holds = c .ring-at .ensures }
 
 refused-requires-3 : tie.Need-refused-requires-3
 refused-requires-3 c κs = search needs
 
 returns-3 : tie.Need-returns-3
 returns-3 c =
-    let i = c .before in
-    let r = i .before in
-    let s = r .before .before .before in
-    let p = s .before .before .before in
-    let a = p .before .before .args in
+    let at-else2 = c .before .before .before .before .before in
+    let at-else1 = at-else2 .before .before in
     rw (c .refused3 .ensures)
-    (too-long (p .placed .ensures) (a .up) (a .run) (a .line .now) (s .before .if1 .left) (s .start-of .ensures) (r .before .if2 .left)
-    (ltb-false _ _ (sym (r .has-room .ensures) ∙ not-true _ (i .if3 .taken))))
+    (no-run _ _ _ _ _ (passed at-else1) (saddle at-else2)
+    (ltb-false _ _ (sym (c .before .before .before .line-start .ensures .found) ∙ not-true _ (c .before .if3 .taken))))
 
--- the list has room
-room : (c : tie.Else3) → length (path (c .before .before)) < length (c .before .before .before .before .before .before .before .before .before .args .line .now)
-room c = ltb-true _ _ (sym (c .before .has-room .ensures) ∙ not-false _ (c .if3 .left))
+has-room-requires : tie.Need-has-room-requires
+has-room-requires c κs =
+    let at-else1 = c .before .before .before .before .before .before in
+    (stands c, start-short (law c) (post at-else1 .post) (has c) (goes c))
+
+refused-requires-4 : tie.Need-refused-requires-4
+refused-requires-4 c κs = search needs
+
+returns-4 : tie.Need-returns-4
+returns-4 c =
+    let at-else3 = c .before .before .before in
+    let at-else2 = at-else3 .before .before .before .before in
+    let at-else1 = at-else2 .before .before in
+    rw (c .refused4 .ensures)
+    (too-long _ _ _ _ _ (passed at-else1) (saddle at-else2) (has at-else3)
+    _ (goes at-else3) (ltb-false _ _ (sym (c .before .before .has-room .ensures) ∙ not-true _ (c .before .if4 .taken))))
 
 write-entries-requires : tie.Need-write-entries-requires
 write-entries-requires c κs =
-    let e = c .before .before .before in
-    let s = e .before .before in
-    let fits = s .before .before .before .placed .ensures .levelled (s .before .if1 .left) in
-    (fits .0, fits .1, s .start-of .ensures .vertex (e .if2 .left), omega (arith, room (c .before)))
+    let at-else1 = c .before .before .before .before .before .before .before .before .before in
+    record { walk = stands (c .before .before .before); post = post at-else1 .post; room = room (c .before) }
 
-cast-t20 : tie.Need-cast-t20
-cast-t20 c =
-    let w = c .before .before in
-    omega (arith, w .write-entries .ensures .0, low (w .before .before .before .before))
+cast-t22 : tie.Need-cast-t22
+cast-t22 c =
+    let at-else3 = c .before .before .before .before .before .before in
+    omega (arith, c .before .before .write-entries .ensures .0, path-low (stands at-else3))
 
 same-length : tie.Need-same-length
 same-length c = search needs
 
-returns-4 : tie.Need-returns-4
-returns-4 c =
-    let w = c .before .before in
-    let i = w .before .before in
-    let e = i .before .before in
-    let s = e .before .before in
-    let p = s .before .before .before in
-    let a = p .before .before .args in
-    drawn (p .placed .ensures) (a .up) (a .run) (a .line .now) (s .before .if1 .left) (s .start-of .ensures) (e .if2 .left)
-    (room i) _ (w .write-entries .ensures .0) _ (w .write-entries .ensures .1)
+returns-5 : tie.Need-returns-5
+returns-5 c =
+    let at-else4 = c .before .before .before .before in
+    let at-else3 = at-else4 .before .before in
+    let at-else2 = at-else3 .before .before .before .before in
+    let at-else1 = at-else2 .before .before in
+    rw (c .before .before .write-entries .ensures .0, c .before .before .write-entries .ensures .1)
+    (drawn _ _ _ _ _ (passed at-else1) (saddle at-else2) (has at-else3) _ (goes at-else3) (room at-else4))
 
 pub draw-line-spec : {M : Type 1} → statement M
 draw-line-spec =
     tie.close
-    (tie.spec
-    placed-requires
-    refused-requires
-    returns
-    start-of-requires
-    refused-requires-2
-    returns-2
-    has-room-requires
-    refused-requires-3
-    returns-3
-    write-entries-requires
-    cast-t20
-    same-length
-    returns-4)
+    (tie.spec post-verdict-requires refused-requires returns mark-at-requires refused-requires-2 returns-2 ring-at-requires line-start-requires
+    refused-requires-3 returns-3 has-room-requires refused-requires-4 returns-4 write-entries-requires cast-t22 same-length returns-5)

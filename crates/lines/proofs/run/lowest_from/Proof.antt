@@ -1,129 +1,125 @@
 -- The loop's invariant: the lowest of what was found so far and of the run's members from place j on is the run's lowest.
-use Prim.Native.Nat.{_+_, _-_, _≤_, _<_}
+use native.Mathlib.Omega.{arith}
 use mathlib.Core.Path.{_≡_, sym, _∙_}
+use Prim.Native.Nat.{_+_, _-_, _≤_, _<_}
 use mathlib.Core.Logic.{inl}
 use mathlib.Core.Bool.{Bool}
 use mathlib.Core.List.{_++_}
-use native.Mathlib.Omega.{arith}
 use borrow.Author.Tests.{not-true, not-false}
-use lib.ListN.{length, getD, drop}
-use Rattle.surface.specs.Lists.{takeWhile}
-use Rattle.surface.specs.Edges.{lowest, lowestOr}
-use Rattle.surface.proofs.RunStarts.{while-stop, while-end}
-use Rattle.surface.proofs.Walks.{Vertex}
-use Rattle.plot.specs.Scan.{toward}
-use Rattle.plot.specs.Rings.{held}
-use Rattle.lines.proofs.Running.{long, twice-long, twice-vertex, lower-vertex, getD-front, low-first, low-more, low-none}
+use lib.ListN.{length, getD}
+use Rattle.surface.specs.Plot.{plotOf, posts, Vertex}
+use Rattle.surface.specs.Edges.{lowestOr}
+use Rattle.surface.specs.Lines.{toward}
+use Rattle.post.specs.Rings.{held}
+use Rattle.lines.specs.Runs.{runFrom, lowestFrom}
+use Rattle.lines.proofs.Running.{while-stop, while-end, getD-front, low-first, low-more, low-none}
+use Rattle.lines.proofs.Ringed.{chosen-vertex, long, twice-long, twice-vertex}
 use Rattle.lines.proofs.run.lowest_from.Statement.{statement}
 use Rattle.lines.proofs.run.lowest_from.Tie as tie
 
 abbrev Inv-loop : tie.InvT-loop
-Inv-loop heights up p ring i twice best₀ j₀ best j =
+Inv-loop heights grid up p ring i twice best₀ j₀ best j =
+    let lower = toward up (plotOf grid heights) .lower in
     (i < j)
     × (j ≤ twice)
-    × Vertex (length heights) best
-    × (lowestOr (toward heights up) best (takeWhile (λ q. toward heights up q p) (drop j (held ring ++ held ring)))
-    ≡ lowest (toward heights up) (takeWhile (λ q. toward heights up q p) (drop i (held ring ++ held ring))))
+    × (lowestOr lower best (runFrom (λ q. lower q p) (held ring) j) ≡ lowestFrom (toward up (plotOf grid heights)) p (held ring) i)
+    × Vertex (posts (plotOf grid heights)) best
 
 abbrev μ-loop : tie.MeasureT-loop
-μ-loop heights up p ring i twice best₀ j₀ best j = twice - j
+μ-loop heights grid up p ring i twice best₀ j₀ best j = twice - j
 
-add-twice : tie.Need-add-twice Inv-loop μ-loop
-add-twice c = omega (arith, c .before .pre .0 .low)
+-- the place is one of the ring gone round twice, its member is a vertex, and it was compared with the post
+inside : (c : tie.In-loop Inv-loop μ-loop) → let r = held (c .before .before .before .before .args .ring) in c .before .loop .j < length (r ++ r)
+inside c = omega (arith, twice-long (c .before .before .before .before .pre .saddle), c .loop-test .taken)
 
--- the place is one of the ring gone round twice, and its member was compared with the post
-inside : (c : tie.In-loop Inv-loop μ-loop)
-    → c .before .loop .j < length (held (c .before .before .before .before .args .ring) ++ held (c .before .before .before .before .args .ring))
-inside c = omega (arith, twice-long (c .before .before .before .before .pre .0), c .loop-test .taken)
+member : (c : tie.After-member-at2 Inv-loop μ-loop)
+    → let a = c .before .before .before .before .before .args in Vertex (posts (plotOf (a .grid) (a .heights .now))) (c .member-at2 .result)
+member c =
+    let z = c .before .before .before .before .before .pre .saddle in
+    rw (c .member-at2 .ensures) (twice-vertex z (c .before .before .loop .j) (c .before .loop-test .taken))
 
 low : {b : Bool} (c : tie.After-is-lower Inv-loop μ-loop) → c .is-lower .result ≡ b
-    → let s = c .before .before .before .before .before .before in
-    toward (s .args .heights .now) (s .args .up) (getD (held (s .args .ring) ++ held (s .args .ring)) (c .before .before .before .loop .j) 0) (s .args .p) ≡ b
+    → let a = c .before .before .before .before .before .before .args in
+    let q = getD (held (a .ring) ++ held (a .ring)) (c .before .before .before .loop .j) 0 in
+    toward (a .up) (plotOf (a .grid) (a .heights .now)) .lower q (a .p) ≡ b
 low c e = rw (← (c .before .member-at2 .ensures)) (sym (c .is-lower .ensures) ∙ e)
 
+add-twice : tie.Need-add-twice Inv-loop μ-loop
+add-twice c = omega (arith, c .before .pre .saddle .holds .low)
+
 member-at-requires : tie.Need-member-at-requires Inv-loop μ-loop
-member-at-requires c κs = let w = c .before .pre .0 in (w .low, w .size, omega (arith, c .before .pre .1))
+member-at-requires c κs = let h = c .before .pre .saddle .holds in (h .low, h .size, omega (arith, c .before .pre .place))
 
 add-j : tie.Need-add-j Inv-loop μ-loop
-add-j c = omega (arith, c .before .before .pre .0 .low, c .before .before .pre .1)
+add-j c = omega (arith, c .before .before .pre .saddle .holds .low, c .before .before .pre .place)
 
 loop-holds : tie.Need-loop-holds Inv-loop μ-loop
 loop-holds c =
     let s = c .before .before in
-    let w = s .pre .0 in
+    let z = s .pre .saddle in
     let i = s .args .i in
-    let l = held (s .args .ring) ++ held (s .args .ring) in
-    let h : i < length l = omega (arith, twice-long w, s .pre .1) in
-    let e : getD l i 0 ≡ getD (held (s .args .ring)) i 0 = getD-front (held (s .args .ring)) (held (s .args .ring)) i (omega (arith, long w, s .pre .1)) in
-    let v = twice-vertex w i (omega (arith, s .pre .1)) in (
-      omega arith,
-      omega (arith, s .pre .1),
-      rw (c .member-at .ensures) v,
-      rw (c .member-at .ensures) (low-first (toward (s .args .heights .now) (s .args .up)) _ l i h (rw e (s .pre .2))),
-    )
+    let r = held (s .args .ring) in
+    let h : i < length (r ++ r) = omega (arith, twice-long z, s .pre .place) in
+    let e : getD (r ++ r) i 0 ≡ getD r i 0 = getD-front r r i (omega (arith, long z, s .pre .place)) in
+    rw (c .member-at .ensures)
+    (omega arith, omega (arith, s .pre .place), low-first _ _ (r ++ r) i h (rw e (s .pre .lower)), twice-vertex z i (omega (arith, s .pre .place)))
 
 member-at-requires-2 : tie.Need-member-at-requires-2 Inv-loop μ-loop
-member-at-requires-2 c κs = let w = c .before .before .before .before .pre .0 in (w .low, w .size, c .loop-test .taken)
+member-at-requires-2 c κs =
+    let at-start = c .before .before .before .before in
+    let h = at-start .pre .saddle .holds in (h .low, h .size, c .loop-test .taken)
 
 is-lower-requires : tie.Need-is-lower-requires Inv-loop μ-loop
 is-lower-requires c κs =
-    let w = c .before .before .before .before .before .pre .0 in
-    (rw (c .member-at2 .ensures) (twice-vertex w (c .before .before .loop .j) (c .before .loop-test .taken)), inl (w .post), w .small)
+    let at-start = c .before .before .before .before .before in
+    let z = at-start .pre .saddle in (z .post .valid, member c, inl (z .post .post))
 
 returns : tie.Need-returns Inv-loop μ-loop
 returns c =
-    let l = c .before .before .before .before in
-    low-none _ _ _ (l .loop .best) (l .loop .j)
-    (while-stop _ _ (l .loop .j) (inside (c .before .before .before)) (low (c .before) (not-true _ (c .if1 .taken))))
-    ∙ l .loop .inv .3
+    let at-loop = c .before .before .before .before in
+    let l = at-loop in
+    low-none _ _ _ (l .loop .best) (l .loop .j) (while-stop _ _ (l .loop .j) (inside (c .before .before .before)) (low (c .before) (not-true _ (c .if1 .taken))))
+    ∙ l .loop .inv .2
 
 lower-of-requires : tie.Need-lower-of-requires Inv-loop μ-loop
 lower-of-requires c κs =
-    let l = c .before .before .before .before in
-    let w = l .before .before .before .pre .0 in
-    (l .loop .inv .2, rw (c .before .before .member-at2 .ensures) (twice-vertex w (l .loop .j) (c .before .before .before .loop-test .taken)), w .small)
+    let at-loop = c .before .before .before .before in
+    let at-start = at-loop .before .before .before in
+    (at-start .pre .saddle .post .valid, at-loop .loop .inv .3, member (c .before .before))
 
 add-j-2 : tie.Need-add-j-2 Inv-loop μ-loop
-add-j-2 c = omega (arith, c .before .before .before .before .before .before .before .before .pre .0 .low)
+add-j-2 c =
+    let at-start = c .before .before .before .before .before .before .before .before in
+    omega (arith, at-start .pre .saddle .holds .low)
 
 loop-less : tie.Need-loop-less Inv-loop μ-loop
 loop-less c = omega arith
 
 loop-again : tie.Need-loop-again Inv-loop μ-loop
 loop-again c =
-    let i = c .before .before .before .before in
-    let l = i .before in
-    let s = l .before .before .before in
-    let m = c .before .before .before .member-at2 in
-    let v : Vertex (length (s .args .heights .now)) (m .result) = rw (m .ensures) (twice-vertex (s .pre .0) (l .loop .j) (i .loop-test .taken)) in (
+    let at-member-at2 = c .before .before .before in
+    let at-in-loop = at-member-at2 .before in
+    let at-loop = at-in-loop .before in
+    let at-start = at-loop .before .before .before in
+    let l = at-loop .loop in
+    let a = at-start .args in
+    let lower = toward (a .up) (plotOf (a .grid) (a .heights .now)) .lower in
+    rw (c .lower-of .ensures) (
       omega arith,
       omega arith,
-      rw (c .lower-of .ensures) (lower-vertex (toward (s .args .heights .now) (s .args .up)) (l .loop .best) (m .result) (l .loop .inv .2) v),
-      rw (c .lower-of .ensures, m .ensures)
-          (low-more _ _ _ (l .loop .best) (l .loop .j) (inside i) (low (c .before .before) (not-false _ (c .before .if1 .left))) ∙ l .loop .inv .3),
+      rw (at-member-at2 .member-at2 .ensures)
+          (low-more _ _ _ (l .best) (l .j) (inside at-in-loop) (low (c .before .before) (not-false _ (c .before .if1 .left))) ∙ l .inv .2),
+      chosen-vertex (lower (at-member-at2 .member-at2 .result) (l .best)) (l .inv .3) (member at-member-at2),
     )
 
 returns-2 : tie.Need-returns-2 Inv-loop μ-loop
 returns-2 c =
-    let l = c .before in
-    let w = l .before .before .before .pre .0 in
-    low-none _ _ _ (l .loop .best) (l .loop .j) (while-end _ _ (l .loop .j) (omega (arith, twice-long w))) ∙ l .loop .inv .3
+    let at-start = c .before .before .before .before in
+    let l = c .before .loop in
+    low-none _ _ _ (l .best) (l .j) (while-end _ _ (l .j) (omega (arith, twice-long (at-start .pre .saddle)))) ∙ l .inv .2
 
 pub lowest-from-spec : {M : Type 1} → statement M
 lowest-from-spec =
     tie.close
-    (tie.spec
-    Inv-loop
-    μ-loop
-    add-twice
-    member-at-requires
-    add-j
-    loop-holds
-    member-at-requires-2
-    is-lower-requires
-    returns
-    lower-of-requires
-    add-j-2
-    loop-less
-    loop-again
-    returns-2)
+    (tie.spec Inv-loop μ-loop add-twice member-at-requires add-j loop-holds member-at-requires-2 is-lower-requires returns lower-of-requires
+    add-j-2 loop-less loop-again returns-2)

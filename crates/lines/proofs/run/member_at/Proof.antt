@@ -1,10 +1,10 @@
 -- The ring once more after its last member.
-use Prim.Native.Nat.{_-_}
-use mathlib.Core.Path.{sym, _∙_}
 use native.Mathlib.Omega.{arith}
-use lib.Seq.{getD-take}
-use Rattle.plot.specs.Rings.{held}
-use Rattle.lines.proofs.Running.{held-long, getD-front, getD-back}
+use mathlib.Core.Path.{sym, _∙_}
+use Prim.Native.Nat.{_-_}
+use lib.Seq.{getD-take, length-take-le}
+use Rattle.post.specs.Rings.{held}
+use Rattle.lines.proofs.Running.{getD-front, getD-back}
 use borrow.Author.Needs.{needs}
 use Rattle.lines.proofs.run.member_at.Statement.{statement}
 use Rattle.lines.proofs.run.member_at.Tie as tie
@@ -19,7 +19,7 @@ returns : tie.Need-returns
 returns c =
     let s = c .before .before in
     let r = s .args .ring in
-    let n = held-long r (s .pre .0) (s .pre .1) in
+    let n = length-take-le (r .len) (r .members) (omega (arith, s .pre)) in
     sym (getD-front (held r) (held r) (s .args .j) (omega arith) ∙ getD-take (r .len) (r .members) (s .args .j) 0 (c .if1 .taken))
 
 mul-result-2 : tie.Need-mul-result-2
@@ -32,10 +32,10 @@ returns-2 : tie.Need-returns-2
 returns-2 c =
     let s = c .before .before in
     let r = s .args .ring in
-    let n = held-long r (s .pre .0) (s .pre .1) in
-    sym (getD-back (held r) (held r) (s .args .j) (omega arith) ∙ rw n (getD-take (r .len) (r .members) (s .args .j - r .len) 0 (omega arith)))
+    let n = length-take-le (r .len) (r .members) (omega (arith, s .pre)) in
+    sym
+    (getD-back (held r) (held r) (s .args .j) (omega arith)
+    ∙ rw n (getD-take (r .len) (r .members) (s .args .j - r .len) 0 (omega (arith, s .pre .2, c .if1 .left))))
 
 pub member-at-spec : {M : Type 1} → statement M
-member-at-spec =
-    tie.close
-    (tie.spec mul-result array-read-result returns mul-result-2 array-read-result-2 returns-2)
+member-at-spec = tie.close (tie.spec mul-result array-read-result returns mul-result-2 array-read-result-2 returns-2)

@@ -1,120 +1,98 @@
--- `listing::posts::put_runs` meets its contract. The loop's invariant: the lines of the runs before number `run` are written. There are at most eight.
-use Prim.Native.Nat.{_-_, _*_, _≤_, _<_}
+-- The loop's invariant: the lines of the runs before number `run` are written. There are at most eight.
 use native.Mathlib.Omega.{arith}
 use mathlib.Core.Path.{_≡_, refl}
+use Prim.Native.Nat.{_-_, _*_, _≤_, _<_}
+use borrow.Author.Tests.{not-true, not-false}
 use lib.ListN.{length}
-use Rattle.surface.specs.Plot.{plot}
-use Rattle.plot.proofs.Round.{few}
-use Rattle.lines.specs.Directed.{runsOf}
-use Rattle.listing.specs.Wrote.{Wrote}
-use Rattle.listing.specs.Lines.{runLines, Saddle}
-use Rattle.listing.proofs.Saddles.{rounded, few-runs, none, numbered, passes, vertex, line-more, no-lines}
+use Rattle.surface.specs.Plot.{plotOf}
+use Rattle.surface.specs.Lines.{runsOf, toward}
+use Rattle.listing.specs.Wrote.{lineRoom, Wrote}
+use Rattle.listing.specs.Lines.{runLines}
+use Rattle.listing.proofs.Saddles.{few-runs, none, numbered, vertex, line-more, no-lines}
 use Rattle.listing.proofs.Writing.{within}
 use Rattle.listing.proofs.posts.put_runs.Statement.{statement}
 use Rattle.listing.proofs.posts.put_runs.Tie as tie
 
 abbrev Inv-loop : tie.InvT-loop
-Inv-loop heights rows columns up letter p ring ends out₀ at len next₀ run₀ out next run =
-    (len ≡ ring .len)
-    × (run ≤ length (runsOf (plot rows columns heights) up p))
-    × Wrote (60 * run) out₀ out at (runLines (plot rows columns heights) up letter p run) next
-    × (length out ≡ length out₀)
+Inv-loop heights grid up letter p ring ends out₀ at next₀ run₀ out next run =
+    let d = toward up (plotOf grid heights) in
+    (run ≤ length (runsOf d p)) × Wrote (lineRoom * run) out₀ out at (runLines (plotOf grid heights) letter d p run) next × (length out ≡ length out₀)
 
 abbrev μ-loop : tie.MeasureT-loop
-μ-loop heights rows columns up letter p ring ends out₀ at len next₀ run₀ out next run = 8 - run
+μ-loop heights grid up letter p ring ends out₀ at next₀ run₀ out next run = 8 - run
 
--- the arguments, and what was asked of them, seen from the loop's head
-abbrev A : (l : tie.At-loop Inv-loop μ-loop) → tie.Start Inv-loop μ-loop
-A l = l .before .before .before
-
-asked : (l : tie.At-loop Inv-loop μ-loop)
-    → let a = A l .args in
-    Saddle (plot (a .rows) (a .columns) (a .heights .now)) (a .up) (a .p) (a .ring) (a .ends .now)
-asked l = A l .pre .0
-
--- a run that is there
-inside : (c : tie.Else1 Inv-loop μ-loop) → c .before .run-at .result < A (c .before .before) .args .ring .len
-inside c = omega (arith, c .if1 .left, c .before .before .loop .inv .0)
-
-there : (c : tie.Else1 Inv-loop μ-loop) → c .before .before .loop .run < 8
+-- there is such a run
+there : (c : tie.Else1 Inv-loop μ-loop) → c .before .before .before .loop .run < 8
 there c =
-    let l = c .before .before in
-    omega (arith, few-runs (asked l), numbered (asked l) (l .loop .run) (c .before .run-at .result) (c .before .run-at .ensures) (inside c))
+    let s = c .before .before .before .before .before .before .pre .0 in
+    omega (arith, few-runs s, numbered s (c .before .before .line-start .ensures) (not-false _ (c .if1 .left)))
 
 loop-holds : tie.Need-loop-holds Inv-loop μ-loop
 loop-holds c =
     let a = c .before .before .args in
-    (refl, omega arith, no-lines (plot (a .rows) (a .columns) (a .heights .now)) (a .up) (a .letter) (a .p) (a .out .now) (a .at), refl)
+    let pl = plotOf (a .grid) (a .heights .now) in
+    (omega arith, no-lines pl (a .letter) (toward (a .up) pl) (a .p) (a .out .now) (a .at), refl)
 
-run-at-requires : tie.Need-run-at-requires Inv-loop μ-loop
-run-at-requires c κs = rounded (asked c)
-
-lowest-from-requires : tie.Need-lowest-from-requires Inv-loop μ-loop
-lowest-from-requires c κs =
-    let l = c .before .before in
-    (rounded (asked l), inside c, passes (asked l) (l .loop .run) (c .before .run-at .result) (c .before .run-at .ensures) (inside c))
+line-start-requires : tie.Need-line-start-requires Inv-loop μ-loop
+line-start-requires c κs = c .before .before .before .pre .0 .saddle
 
 end-from-requires : tie.Need-end-from-requires Inv-loop μ-loop
 end-from-requires c κs =
-    let e = c .before in
-    let l = e .before .before in
-    vertex (asked l) (l .loop .run) (e .before .run-at .result) (e .before .run-at .ensures) (inside e) (c .lowest-from .result) (c .lowest-from .ensures)
+    let at-start = c .before .before .before .before .before .before in
+    vertex (at-start .pre .0) (c .before .before .line-start .ensures) (not-false _ (c .if1 .left))
 
 cast-put-line : tie.Need-cast-put-line Inv-loop μ-loop
-cast-put-line c = let l = c .before .before .before .before .before in omega (arith, few (asked l .fits), asked l .post)
+cast-put-line c =
+    let at-start = c .before .before .before .before .before .before .before .before in
+    let post = at-start .pre .0 .saddle .post in omega (arith, post .post, post .valid .sides)
 
 put-line-requires : tie.Need-put-line-requires Inv-loop μ-loop
 put-line-requires c κs =
-    let e = c .before .before .before in
-    let l = e .before .before in
-    omega (arith, there e, l .loop .inv .2 .place, l .loop .inv .2 .bound, l .loop .inv .3, A l .pre .1)
+    let at-loop = c .before .before .before .before .before in
+    let at-start = at-loop .before .before .before in
+    let w = at-loop .loop .inv .1 in omega (arith, there (c .before .before), w .place, w .bound, at-loop .loop .inv .2, at-start .pre .1)
 
 add-run : tie.Need-add-run Inv-loop μ-loop
-add-run c = omega (arith, there (c .before .before .before .before .before .before))
+add-run c =
+    let at-else1 = c .before .before .before .before .before in
+    omega (arith, there at-else1)
 
 loop-less : tie.Need-loop-less Inv-loop μ-loop
-loop-less c = omega (arith, there (c .before .before .before .before .before .before))
+loop-less c =
+    let at-else1 = c .before .before .before .before .before in
+    omega (arith, there at-else1)
 
 loop-again : tie.Need-loop-again Inv-loop μ-loop
 loop-again c =
-    let w = c .before .before in
-    let n = w .before .before in
-    let f = n .before in
-    let e = f .before in
-    let r = e .before in
-    let l = r .before in (
-      l .loop .inv .0,
-      omega (arith, numbered (asked l) (l .loop .run) (r .run-at .result) (r .run-at .ensures) (inside e)),
-      line-more (asked l) (l .loop .run) (r .run-at .result) (r .run-at .ensures) (inside e) (f .lowest-from .result) (f .lowest-from .ensures) (A l .args .letter) (n .end-from .result) (n .end-from .ensures) (l .loop .inv .2) (w .put-line .ensures),
-      omega (arith, w .put-line .kept, l .loop .inv .3),
+    let at-end-from = c .before .before .before .before in
+    let at-else1 = at-end-from .before in
+    let at-line-start = at-else1 .before .before in
+    let at-loop = at-line-start .before in
+    let at-start = at-loop .before .before .before in
+    let s = at-start in
+    let k = at-line-start .line-start .ensures in
+    let e = not-false _ (at-else1 .if1 .left) in (
+      omega (arith, numbered (s .pre .0) k e),
+      line-more (s .pre .0) k e (s .args .letter) _ (at-end-from .end-from .ensures) (at-loop .loop .inv .1) (c .before .before .put-line .ensures),
+      omega (arith, c .before .before .put-line .kept, at-loop .loop .inv .2),
     )
 
 same-length : tie.Need-same-length Inv-loop μ-loop
-same-length c = c .before .before .loop .inv .3
+same-length c = c .before .before .before .loop .inv .2
 
 returns : tie.Need-returns Inv-loop μ-loop
+unfolding runLines
 returns c =
-    let r = c .before in
-    let l = r .before in
-    let a = A l .args in
-    let n : l .loop .run ≡ length (runsOf (plot (a .rows) (a .columns) (a .heights .now)) (a .up) (a .p)) =
-    omega (arith, none (asked l) (l .loop .run) (r .run-at .result) (r .run-at .ensures) (omega (arith, c .if1 .taken, l .loop .inv .0)), l .loop .inv .1) in
-    rw (← n) (within (omega (arith, few-runs (asked l))) (l .loop .inv .2))
+    let at-loop = c .before .before .before in
+    let at-start = at-loop .before .before .before in
+    let s = at-start in
+    let a = s .args in
+    let n : at-loop .loop .run ≡ length (runsOf (toward (a .up) (plotOf (a .grid) (a .heights .now))) (a .p)) =
+    omega (arith, at-loop .loop .inv .0, none (s .pre .0) (c .before .before .line-start .ensures) (not-true _ (c .if1 .taken))) in
+    rw (← n) (within (omega (arith, few-runs (s .pre .0))) (at-loop .loop .inv .1))
 
 pub put-runs-spec : {M : Type 1} → statement M
 put-runs-spec =
     tie.close
-    (tie.spec
-    Inv-loop
-    μ-loop
-    loop-holds
-    run-at-requires
-    lowest-from-requires
-    end-from-requires
-    cast-put-line
-    put-line-requires
-    add-run
-    loop-less
-    loop-again
-    same-length
-    returns)
+    (tie.spec Inv-loop μ-loop loop-holds line-start-requires end-from-requires cast-put-line put-line-requires add-run loop-less loop-again
+    same-length returns)

@@ -1,92 +1,77 @@
+-- By the number of digits left: none, one digit, or those of a tenth of the number and one more.
 use Prim.Native.Nat.{ℕ, _<_}
 use native.Mathlib.Omega.{arith}
 use borrow.Author.Needs.{needs}
-use Rattle.listing.proofs.Writing.{no-digits, one-digit, more-digits}
 use borrow.Fn.Kinds.{In}
 use borrow.Fn.PlainCycle.{Measures, is, falls, and}
-use Rattle.listing.proofs.text.put_digits.Reads as put-digits
-use Rattle.listing.proofs.text.put_digits.Kinds as put-digits-kinds
-use Rattle.listing.proofs.text.+put_digits.Lts-put_digits as put-digits-lts
-use Rattle.listing.proofs.text.put_byte.Reads as put-byte-reads
+use Rattle.listing.proofs.Writing.{no-digits, one-digit, more-digits}
+use Rattle.listing.proofs.text.put_digits.Reads as fn
+use Rattle.listing.proofs.text.put_digits.Kinds as kinds
+use Rattle.listing.proofs.text.put_byte.Reads as put-byte
+use Rattle.listing.proofs.text.+put_digits.Lts-put_digits as lts
 use Rattle.listing.proofs.text.+put_digits.{statement}
 use Rattle.listing.proofs.text.+put_digits.Tie.{close}
 
-abbrev μ-put-digits : Measures 1 put-digits-kinds.ps ℕ
-μ-put-digits κs a = a .1 .1 .0
+-- the measure, and what a call at measure t may ask of calls at a lower one
+abbrev μ : Measures 1 kinds.ps ℕ
+μ κs a = a .1 .1 .0
 
-abbrev put-digits-at : ℕ → In 1 put-digits-kinds.ps
-put-digits-at t =
-    and 1 put-digits-kinds.ps (is 1 put-digits-kinds.ps μ-put-digits t) put-digits.Pre
+module _ (t : ℕ) where
+  abbrev at : In 1 kinds.ps
+  at = and 1 kinds.ps (is 1 kinds.ps μ t) fn.Pre
 
-abbrev put-digits-below : ℕ → In 1 put-digits-kinds.ps
-put-digits-below t =
-    and 1 put-digits-kinds.ps (falls 1 put-digits-kinds.ps _<_ μ-put-digits t) put-digits.Pre
+  abbrev claims : lts.Claims
+  claims = (put-byte.Asked, put-byte.Learnt, and 1 kinds.ps (falls 1 kinds.ps _<_ μ t) fn.Pre, fn.Post)
 
-put-digits-returns : (t : ℕ) → put-digits-lts.Need-returns (put-byte-reads.Asked, put-byte-reads.Learnt, put-digits-below t, put-digits.Post) (put-digits-at t) put-digits.Post
-put-digits-returns t c =
-    let s = c .before .before in
-    no-digits (s .args .more) (s .args .n) (s .args .buffer .now) (s .args .at) (c .if1 .taken)
+  returns : lts.Need-returns claims at fn.Post
+  returns c = let a = c .before .before .args in no-digits (a .more) (a .n) (a .buffer .now) (a .at) (c .if1 .taken)
 
-put-digits-add-put-byte : (t : ℕ) → put-digits-lts.Need-add-put-byte (put-byte-reads.Asked, put-byte-reads.Learnt, put-digits-below t, put-digits.Post) (put-digits-at t) put-digits.Post
-put-digits-add-put-byte t c = omega arith
+  add-put-byte : lts.Need-add-put-byte claims at fn.Post
+  add-put-byte c = omega arith
 
-put-digits-cast-put-byte : (t : ℕ) → put-digits-lts.Need-cast-put-byte (put-byte-reads.Asked, put-byte-reads.Learnt, put-digits-below t, put-digits.Post) (put-digits-at t) put-digits.Post
-put-digits-cast-put-byte t c = omega arith
+  cast-put-byte : lts.Need-cast-put-byte claims at fn.Post
+  cast-put-byte c = omega arith
 
-put-digits-put-byte-requires : (t : ℕ) → put-digits-lts.Need-put-byte-requires (put-byte-reads.Asked, put-byte-reads.Learnt, put-digits-below t, put-digits.Post) (put-digits-at t) put-digits.Post
-put-digits-put-byte-requires t c κs = omega arith
+  put-byte-requires : lts.Need-put-byte-requires claims at fn.Post
+  put-byte-requires c κs = omega arith
 
-put-digits-same-length : (t : ℕ) → put-digits-lts.Need-same-length (put-byte-reads.Asked, put-byte-reads.Learnt, put-digits-below t, put-digits.Post) (put-digits-at t) put-digits.Post
-put-digits-same-length t c = search needs
+  same-length : lts.Need-same-length claims at fn.Post
+  same-length c = search needs
 
-put-digits-returns-2 : (t : ℕ) → put-digits-lts.Need-returns-2 (put-byte-reads.Asked, put-byte-reads.Learnt, put-digits-below t, put-digits.Post) (put-digits-at t) put-digits.Post
-put-digits-returns-2 t c =
-    let s = c .before .before .before .before .before .before .before in
-    one-digit (s .args .more) (s .args .n) (c .before .before .before .before .before .if1 .left) (omega arith) (c .before .before .put-byte .ensures)
+  returns-2 : lts.Need-returns-2 claims at fn.Post
+  returns-2 c =
+      let at-else1 = c .before .before .before .before .before in
+      let a = at-else1 .before .before .args in
+      one-digit (a .more) (a .n) (at-else1 .if1 .left) (omega arith) (c .before .before .put-byte .ensures)
 
-put-digits-sub-put-digits : (t : ℕ) → put-digits-lts.Need-sub-put-digits (put-byte-reads.Asked, put-byte-reads.Learnt, put-digits-below t, put-digits.Post) (put-digits-at t) put-digits.Post
-put-digits-sub-put-digits t c = omega arith
+  sub-put-digits : lts.Need-sub-put-digits claims at fn.Post
+  sub-put-digits c = omega arith
 
-put-digits-put-digits-requires : (t : ℕ) → put-digits-lts.Need-put-digits-requires (put-byte-reads.Asked, put-byte-reads.Learnt, put-digits-below t, put-digits.Post) (put-digits-at t) put-digits.Post
-put-digits-put-digits-requires t c κs = omega arith
+  put-digits-requires : lts.Need-put-digits-requires claims at fn.Post
+  put-digits-requires c κs = omega arith
 
-put-digits-add-put-byte-2 : (t : ℕ) → put-digits-lts.Need-add-put-byte-2 (put-byte-reads.Asked, put-byte-reads.Learnt, put-digits-below t, put-digits.Post) (put-digits-at t) put-digits.Post
-put-digits-add-put-byte-2 t c = omega arith
+  add-put-byte-2 : lts.Need-add-put-byte-2 claims at fn.Post
+  add-put-byte-2 c = omega arith
 
-put-digits-cast-put-byte-2 : (t : ℕ) → put-digits-lts.Need-cast-put-byte-2 (put-byte-reads.Asked, put-byte-reads.Learnt, put-digits-below t, put-digits.Post) (put-digits-at t) put-digits.Post
-put-digits-cast-put-byte-2 t c = omega arith
+  cast-put-byte-2 : lts.Need-cast-put-byte-2 claims at fn.Post
+  cast-put-byte-2 c = omega arith
 
-put-digits-put-byte-requires-2 : (t : ℕ) → put-digits-lts.Need-put-byte-requires-2 (put-byte-reads.Asked, put-byte-reads.Learnt, put-digits-below t, put-digits.Post) (put-digits-at t) put-digits.Post
-put-digits-put-byte-requires-2 t c κs = omega arith
+  put-byte-requires-2 : lts.Need-put-byte-requires-2 claims at fn.Post
+  put-byte-requires-2 c κs = omega arith
 
-put-digits-same-length-2 : (t : ℕ) → put-digits-lts.Need-same-length-2 (put-byte-reads.Asked, put-byte-reads.Learnt, put-digits-below t, put-digits.Post) (put-digits-at t) put-digits.Post
-put-digits-same-length-2 t c = search needs
+  same-length-2 : lts.Need-same-length-2 claims at fn.Post
+  same-length-2 c = search needs
 
-put-digits-returns-3 : (t : ℕ) → put-digits-lts.Need-returns-3 (put-byte-reads.Asked, put-byte-reads.Learnt, put-digits-below t, put-digits.Post) (put-digits-at t) put-digits.Post
-put-digits-returns-3 t c =
-    let s = c .before .before .before .before .before .before .before .before .before .before .before in
-    let rest = c .before .before .before .before .before .before in
-    more-digits (s .args .more) (s .args .n) (rest .before .before .before .if1 .left) (omega arith) (rest .put-digits .ensures) (c .before .before .put-byte2 .ensures)
+  returns-3 : lts.Need-returns-3 claims at fn.Post
+  returns-3 c =
+      let rest = c .before .before .before .before .before .before in
+      let at-else1 = rest .before .before .before in
+      let a = at-else1 .before .before .args in
+      more-digits (a .more) (a .n) (at-else1 .if1 .left) (omega arith) (rest .put-digits .ensures) (c .before .before .put-byte2 .ensures)
 
 pub +put-digits-spec : {M : Type 1} → statement M
-+put-digits-spec = close μ-put-digits λ t. put-digits-lts.spec (
-  put-byte-reads.Asked,
-  put-byte-reads.Learnt,
-  put-digits-below t,
-  put-digits.Post,
-)
-    (put-digits-at t)
-    put-digits.Post
-    (put-digits-returns t)
-    (put-digits-add-put-byte t)
-    (put-digits-cast-put-byte t)
-    (put-digits-put-byte-requires t)
-    (put-digits-same-length t)
-    (put-digits-returns-2 t)
-    (put-digits-sub-put-digits t)
-    (put-digits-put-digits-requires t)
-    (put-digits-add-put-byte-2 t)
-    (put-digits-cast-put-byte-2 t)
-    (put-digits-put-byte-requires-2 t)
-    (put-digits-same-length-2 t)
-    (put-digits-returns-3 t)
++put-digits-spec =
+    close μ
+    λ t.
+    lts.spec (claims t) (at t) fn.Post (returns t) (add-put-byte t) (cast-put-byte t) (put-byte-requires t) (same-length t) (returns-2 t)
+    (sub-put-digits t) (put-digits-requires t) (add-put-byte-2 t) (cast-put-byte-2 t) (put-byte-requires-2 t) (same-length-2 t) (returns-3 t)

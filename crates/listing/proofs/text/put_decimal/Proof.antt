@@ -1,4 +1,4 @@
--- `listing::text::put_decimal` meets its contract: ten digits are enough.
+-- Ten digits are enough.
 use Rattle.surface.specs.Lister.{decimal}
 use borrow.Author.Needs.{needs}
 use Rattle.listing.proofs.text.put_decimal.Statement.{statement}

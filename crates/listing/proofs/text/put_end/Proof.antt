@@ -1,4 +1,4 @@
--- `listing::text::put_end` meets its contract, by whether the end is the virtual pit.
+-- By whether the end is the virtual pit.
 use native.Mathlib.Omega.{arith}
 use Rattle.listing.proofs.Writing.{more, within, pit-named, post-named}
 use borrow.Author.Needs.{needs}
@@ -16,9 +16,9 @@ same-length c = search needs
 
 returns : tie.Need-returns
 returns c =
-    let d = c .before .before in
-    let b = d .before .before .before .before in
-    rw (pit-named _ (b .before .before .if1 .taken)) (within (omega arith) (more (b .put-byte .ensures) (d .put-byte2 .ensures)))
+    let at-put-byte = c .before .before .before .before .before .before in
+    let at-then1 = at-put-byte .before .before in
+    rw (pit-named _ (at-then1 .if1 .taken)) (within (omega arith) (more (at-put-byte .put-byte .ensures) (c .before .before .put-byte2 .ensures)))
 
 put-field-requires : tie.Need-put-field-requires
 put-field-requires c κs = search needs
@@ -27,16 +27,9 @@ same-length-2 : tie.Need-same-length-2
 same-length-2 c = search needs
 
 returns-2 : tie.Need-returns-2
-returns-2 c = let d = c .before .before in rw (post-named _ (d .before .before .if1 .left)) (d .put-field .ensures)
+returns-2 c =
+    let at-else1 = c .before .before .before .before in
+    rw (post-named _ (at-else1 .if1 .left)) (c .before .before .put-field .ensures)
 
 pub put-end-spec : {M : Type 1} → statement M
-put-end-spec =
-    tie.close
-    (tie.spec
-    put-byte-requires
-    put-byte-requires-2
-    same-length
-    returns
-    put-field-requires
-    same-length-2
-    returns-2)
+put-end-spec = tie.close (tie.spec put-byte-requires put-byte-requires-2 same-length returns put-field-requires same-length-2 returns-2)

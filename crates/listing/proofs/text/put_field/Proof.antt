@@ -1,4 +1,4 @@
--- `listing::text::put_field` meets its contract: a space, and the number.
+-- A space, and the number.
 use Rattle.listing.proofs.Writing.{more}
 use borrow.Author.Needs.{needs}
 use Rattle.listing.proofs.text.put_field.Statement.{statement}
@@ -14,7 +14,9 @@ same-length : tie.Need-same-length
 same-length c = search needs
 
 returns : tie.Need-returns
-returns c = let d = c .before .before in more (d .before .before .before .before .put-byte .ensures) (d .put-decimal .ensures)
+returns c =
+    let at-put-byte = c .before .before .before .before .before .before in
+    more (at-put-byte .put-byte .ensures) (c .before .before .put-decimal .ensures)
 
 pub put-field-spec : {M : Type 1} → statement M
 put-field-spec = tie.close (tie.spec put-byte-requires put-decimal-requires same-length returns)

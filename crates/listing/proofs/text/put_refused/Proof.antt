@@ -1,6 +1,6 @@
--- `listing::text::put_refused` meets its contract: the pieces, one after the other, are the line.
+-- The pieces, one after the other, are the line.
 use native.Mathlib.Omega.{arith}
-use Rattle.surface.specs.Lister.{fields, textLine, refusedText}
+use Rattle.surface.specs.Lister.{refusedText, textLine, fields}
 use Rattle.listing.proofs.Writing.{more, within}
 use borrow.Author.Needs.{needs}
 use Rattle.listing.proofs.text.put_refused.Statement.{statement}
@@ -24,19 +24,14 @@ same-length c = search needs
 returns : tie.Need-returns
 unfolding refusedText textLine fields
 returns c =
-    let c3 = c .before .before in
-    let c2 = c3 .before .before .before .before in
-    let c1 = c2 .before .before .before .before in
-    let c0 = c1 .before .before .before .before in
-    within (omega arith) (more (c0 .put-byte .ensures) (more (c1 .put-field .ensures) (more (c2 .put-field2 .ensures) (c3 .put-byte2 .ensures))))
+    let at-put-field2 = c .before .before .before .before .before .before in
+    let at-put-field = at-put-field2 .before .before .before .before in
+    let at-put-byte = at-put-field .before .before .before .before in
+    within (omega arith)
+    (more (at-put-byte .put-byte .ensures)
+    (more (at-put-field .put-field .ensures)
+    (more (at-put-field2 .put-field2 .ensures)
+    (c .before .before .put-byte2 .ensures))))
 
 pub put-refused-spec : {M : Type 1} → statement M
-put-refused-spec =
-    tie.close
-    (tie.spec
-    put-byte-requires
-    put-field-requires
-    put-field-requires-2
-    put-byte-requires-2
-    same-length
-    returns)
+put-refused-spec = tie.close (tie.spec put-byte-requires put-field-requires put-field-requires-2 put-byte-requires-2 same-length returns)
