@@ -1,90 +1,61 @@
--- `parts::fill::fill_nexts` meets its contract: in each list the rows one after the other, down to the last.
-use Prim.Native.Nat.{ℕ, _+_, _-_, _*_, _≤_}
+-- The top row, the rows between and the bottom row, one after the other.
+use Prim.Native.Nat.{_-_, _*_}
 use native.Mathlib.Omega.{arith}
-use mathlib.Core.Path.{_≡_, _∙_}
-use mathlib.Core.List.{List}
-use borrow.Author.Needs.{needs}
-use lib.ListN.{length}
-use Rattle.surface.specs.Lists.{listOf}
-use Rattle.plot.specs.Stores.{stores}
-use Rattle.plot.proofs.Stores.{stores-join, stores-all}
-use Rattle.plot.proofs.Rows.{fits-two}
+use Rattle.surface.specs.Plot.{plotOf}
+use Rattle.surface.proofs.AnyOrder.Grid.{row-fits}
+use Rattle.parts.specs.Filled.{AllFilled}
+use Rattle.parts.proofs.Filled.{filled-join, filled-lists, dales-long, hills-long}
 use Rattle.parts.proofs.fill.fill_nexts.Statement.{statement}
 use Rattle.parts.proofs.fill.fill_nexts.Tie as tie
 
--- the top row of k posts, the rows between, the bottom row
-whole : (f : ℕ → ℕ) (k n : ℕ) (l l₁ l₂ l₃ : List ℕ) → length l ≡ n → k + k ≤ n → l₁ ≡ stores f 0 k l → l₂ ≡ stores f k (n - k - k) l₁ → l₃ ≡ stores f (n - k) k l₂
-    → l₃ ≡ listOf f n
-whole f k n l l₁ l₂ l₃ h w a b c =
-    stores-join f 0 (n - k) (n - k) k n l l₂ l₃ (stores-join f 0 k k (n - k - k) (n - k) l l₁ l₂ a b (omega arith) (omega arith)) c (omega arith) (omega arith)
-    ∙ stores-all f n l 0 h
+-- from the bottom row back to the rows between, and to the top row
+abbrev between : tie.After-fill-anywhere2 → tie.After-fill-rows
+between c = c .before .before .before .before .before .before .before
 
--- the lists' lengths after the rows between
-sizes : (r : tie.After-next-rows)
-    → let s = r .before .before .before .before .before .before .before .before .before .before .before .before .before in
-    let n = s .args .rows * s .args .columns in
-    (length (r .next-rows .last .1 .1 .1 .0) ≡ n) × (length (r .next-rows .last .1 .1 .1 .1 .0) ≡ n)
-sizes r =
-    let s = r .before .before .before .before .before .before .before .before .before .before .before .before .before in (
-      r .next-rows .kept .1 .1 .1 .0 ∙ r .before .before .before .before .before .before .before .before .before .next-each .kept .1 .1 .1 .1 .1 .1 .0 ∙ s .pre .1,
-      r .next-rows .kept .1 .1 .1 .1 .0 ∙ r .before .before .before .before .before .next-each2 .kept .1 .1 .1 .1 .1 .1 .0 ∙ s .pre .2,
-    )
+abbrev top : tie.After-fill-rows → tie.After-fill-anywhere
+top c = c .before .before .before .before .before .before .before
+
+abbrev start : tie.After-fill-anywhere → tie.Start
+start c = c .before .before .before .before .before .before
+
+-- the whole
+filled : (c : tie.After-fill-anywhere2)
+    → let a = start (top (between c)) .args in
+    AllFilled (plotOf (a .grid) (a .heights .now)) (a .dales .now) (a .hills .now) (c .fill-anywhere2 .last .1 .1 .1 .1 .0) (c .fill-anywhere2 .last .1 .1 .1 .1 .1 .0)
+filled c =
+    let t = top (between c) in
+    let g = start t .args .grid in
+    let k = g .columns in
+    let n = g .rows * k in
+    let w = row-fits (start t .pre .valid .sides) in
+    filled-join (filled-join (t .fill-anywhere .ensures) (between c .fill-rows .ensures) (n - k) (omega arith) (omega arith)) (c .fill-anywhere2 .ensures) n (omega arith) (omega arith)
 
 mul-bottom : tie.Need-mul-bottom
-mul-bottom c = search needs
+mul-bottom c = omega (arith, c .before .before .before .pre .valid .sides)
 
 sub-bottom : tie.Need-sub-bottom
-sub-bottom c = omega (arith, fits-two (c .before .before .pre .0 .fits))
+sub-bottom c = omega (arith, row-fits (c .before .before .before .pre .valid .sides))
 
-next-each-requires : tie.Need-next-each-requires
-next-each-requires c κs = let s = c .before .before .before in (s .pre .0, s .pre .1, omega (arith, fits-two (s .pre .0 .fits)))
+fill-anywhere-requires : tie.Need-fill-anywhere-requires
+fill-anywhere-requires c κs = (c .before .before .before .before .before .pre, omega (arith, row-fits (c .before .before .before .before .before .pre .valid .sides)))
 
-next-each-requires-2 : tie.Need-next-each-requires-2
-next-each-requires-2 c κs = let s = c .before .before .before .before .before .before .before in (s .pre .0, s .pre .2, omega (arith, fits-two (s .pre .0 .fits)))
+fill-rows-requires : tie.Need-fill-rows-requires
+fill-rows-requires c κs = let t = c .before .before .before .before .before .before in filled-lists (t .fill-anywhere .ensures) (start t .pre)
 
-next-rows-requires : tie.Need-next-rows-requires
-next-rows-requires c κs = search needs
-
-next-each-requires-3 : tie.Need-next-each-requires-3
-next-each-requires-3 c κs =
-    let r = c .before .before .before .before .before in
-    let s = r .before .before .before .before .before .before .before .before .before .before .before .before .before in
-    (s .pre .0, sizes r .0, omega (arith, fits-two (s .pre .0 .fits)))
-
-next-each-requires-4 : tie.Need-next-each-requires-4
-next-each-requires-4 c κs =
-    let r = c .before .before .before .before .before .before .before .before .before in
-    let s = r .before .before .before .before .before .before .before .before .before .before .before .before .before in
-    (s .pre .0, sizes r .1, omega (arith, fits-two (s .pre .0 .fits)))
+fill-anywhere-requires-2 : tie.Need-fill-anywhere-requires-2
+fill-anywhere-requires-2 c κs =
+    let r = c .before .before .before .before .before .before in
+    let t = top r in
+    (filled-lists (r .fill-rows .ensures) (filled-lists (t .fill-anywhere .ensures) (start t .pre)), omega (arith, row-fits (start t .pre .valid .sides)))
 
 same-length : tie.Need-same-length
-same-length c = search needs
+same-length c = dales-long (filled (c .before .before .before .before))
 
 same-length-2 : tie.Need-same-length-2
-same-length-2 c = search needs
+same-length-2 c = hills-long (filled (c .before .before .before .before))
 
 returns : tie.Need-returns
-returns c =
-    let r = c .before .before .before .before .before .before .before .before .before .before .before .before in
-    let s = r .before .before .before .before .before .before .before .before .before .before .before .before .before in
-    let k = s .args .columns in
-    let n = s .args .rows * k in
-    let w = fits-two (s .pre .0 .fits) in (
-      whole _ k n (s .args .down .now) _ _ _ (s .pre .1) w (r .before .before .before .before .before .before .before .before .before .next-each .ensures) (r .next-rows .ensures .0) (c .before .before .before .before .before .before .next-each3 .ensures),
-      whole _ k n (s .args .up .now) _ _ _ (s .pre .2) w (r .before .before .before .before .before .next-each2 .ensures) (r .next-rows .ensures .1) (c .before .before .next-each4 .ensures),
-    )
+returns c = filled (c .before .before .before .before)
 
 pub fill-nexts-spec : {M : Type 1} → statement M
-fill-nexts-spec =
-    tie.close
-    (tie.spec
-    mul-bottom
-    sub-bottom
-    next-each-requires
-    next-each-requires-2
-    next-rows-requires
-    next-each-requires-3
-    next-each-requires-4
-    same-length
-    same-length-2
-    returns)
+fill-nexts-spec = tie.close (tie.spec mul-bottom sub-bottom fill-anywhere-requires fill-rows-requires fill-anywhere-requires-2 same-length same-length-2 returns)

@@ -1,4 +1,3 @@
--- `parts::paths::ahead` meets its contract.
 use native.Mathlib.Omega.{arith}
 use mathlib.Core.Path.{refl}
 use borrow.Author.Needs.{needs}

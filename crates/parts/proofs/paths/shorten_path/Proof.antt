@@ -1,19 +1,19 @@
--- `parts::paths::shorten_path` meets its contract. The loop's invariant: paths were only made shorter, the path from e ends at `end`, and p has its entry
+-- The loop's invariant: paths were only made shorter, the path from e ends at `end`, and p has its entry
 -- as soon as it is passed. The measure: the steps left from e before anything was stored.
 use native.Mathlib.Omega.{arith}
 use mathlib.Core.Path.{_≡_, refl, sym, _∙_, ap}
 use mathlib.Core.Logic.{_⊎_, ⊎-elim, inl, inr}
-use Rattle.parts.specs.Paths.{follow, endIn, Shorter}
-use Rattle.parts.proofs.Shorter.{stepsIn, shorter-none, shorter-told, Under, under, read-end, read-nearer, store-end, stored}
+use Rattle.parts.specs.Paths.{follow, pathEnd, Shorter}
+use Rattle.parts.proofs.Shorter.{stepsLeft, shorter-none, shorter-told, Under, under, read-end, read-nearer, store-end, stored}
 use Rattle.parts.proofs.paths.shorten_path.Statement.{statement}
 use Rattle.parts.proofs.paths.shorten_path.Tie as tie
 
 abbrev Inv-loop : tie.InvT-loop
 Inv-loop list₀ p end stop e₀ list e =
-    Shorter list₀ list × (endIn list₀ e ≡ end) × ((e ≡ p) ⊎ (follow list p ≡ end))
+    Shorter list₀ list × (pathEnd list₀ e ≡ end) × ((e ≡ p) ⊎ (follow list p ≡ end))
 
 abbrev μ-loop : tie.MeasureT-loop
-μ-loop list₀ p end stop e₀ list e = stepsIn list₀ e
+μ-loop list₀ p end stop e₀ list e = stepsLeft list₀ e
 
 -- a turn's post is not its end
 belowBy : (c : tie.In-loop Inv-loop μ-loop) → Under (c .before .loop .inv .0) (c .before .loop .e)
@@ -66,7 +66,7 @@ returns c =
       i .0,
       ⊎-elim
           (λ (k : l .loop .e ≡ a .p).
-          let h : a .p ≡ endIn was (a .p) = sym k ∙ c .loop-test .left ∙ l .before .pre .2 in
+          let h : a .p ≡ pathEnd was (a .p) = sym k ∙ c .loop-test .left ∙ l .before .pre .2 in
           shorter-told ends (i .0) (a .p) (ap (follow was) h ∙ ends .stays (a .p)) ∙ sym (l .before .pre .2))
           (λ (k : follow (l .loop .list) (a .p) ≡ a .end). k)
           (i .2),

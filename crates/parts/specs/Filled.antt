@@ -1,0 +1,26 @@
+-- Two lists of a plot's size that are filled together: one with next down, from which dales come, and one with next up, from which hills come.
+use Prim.Native.Nat.{ℕ, _-_}
+use mathlib.Core.Path.{_≡_}
+use mathlib.Core.List.{List}
+use lib.ListN.{length}
+use Rattle.surface.specs.Lists.{stores}
+use Rattle.surface.specs.Plot.{Plot, posts, Valid}
+use Rattle.surface.specs.Lines.{next, down, up}
+
+-- a plot, and two lists of its size
+pub record ForParts (pl : Plot) (dales hills : List ℕ) : Type 0 where
+  pub valid : Valid pl
+  pub dalesSize : length dales ≡ posts pl
+  pub hillsSize : length hills ≡ posts pl
+
+-- what the first two lists are after the entries of n posts, from post `from` on, were filled
+pub record BothFilled (pl : Plot) (from n : ℕ) (dales₀ hills₀ dales hills : List ℕ) : Type 0 where
+  pub downward : dales ≡ stores (next (down pl)) from n dales₀
+  pub upward : hills ≡ stores (next (up pl)) from n hills₀
+
+-- the entries of every row between the top and the bottom one, and those of every post
+abbrev pub RowsFilled : Plot → List ℕ → List ℕ → List ℕ → List ℕ → Type 0
+RowsFilled pl = BothFilled pl pl.columns (posts pl - pl.columns - pl.columns)
+
+abbrev pub AllFilled : Plot → List ℕ → List ℕ → List ℕ → List ℕ → Type 0
+AllFilled pl = BothFilled pl 0 (posts pl)
