@@ -1,22 +1,29 @@
 -- Two lists that are filled together, a turn and a stretch at a time.
-use Prim.Native.Nat.{ℕ, _+_, _<_}
+use Prim.Native.Nat.{ℕ, _+_, _*_, _≤_, _<_}
+use native.Mathlib.Omega.{arith}
+use native.Mathlib.Nat.{mul-le-mul-right, suc-mul}
 use mathlib.Core.Path.{_≡_, refl, _∙_}
 use mathlib.Core.Logic.{inl}
-use mathlib.Core.Bool.{Bool}
 use mathlib.Core.List.{List}
 use lib.ListN.{length, set}
 use Rattle.surface.specs.Lists.{stores}
-use Rattle.surface.specs.Plot.{Plot, posts, Valid}
-use Rattle.surface.specs.Lines.{next, down, up, toward}
+use Rattle.surface.specs.Plot.{Plot, PostOf}
+use Rattle.surface.specs.Lines.{next, down, up}
 use Rattle.surface.proofs.General.Stores.{length-stores, store-next, stores-join}
 use Rattle.surface.proofs.AnyOrder.Grid.{vertex-low}
 use Rattle.surface.proofs.AnyOrder.Walks.{next-vertex}
-use Rattle.surface.proofs.OfPlots.Instance.{toward-falling}
+use Rattle.surface.proofs.OfPlots.Instance.{down-falling, up-falling}
 use Rattle.parts.specs.Filled.{ForParts, BothFilled}
 
 -- next posts fit 16 bits
-pub next-fits : {pl : Plot} → Valid pl → (upward : Bool) (p : ℕ) → p < posts pl → next (toward upward pl) p < 65536
-next-fits {pl} v upward p h = vertex-low (v .sides) (next-vertex (toward-falling pl (v .sides) upward) p (inl h))
+pub next-fits : {pl : Plot} {p : ℕ} → PostOf pl p → (next (down pl) p < 65536) × (next (up pl) p < 65536)
+next-fits {pl} {p} i =
+    let s = i .valid .sides in
+    (vertex-low s (next-vertex (down-falling pl s) p (inl (i .post))), vertex-low s (next-vertex (up-falling pl s) p (inl (i .post))))
+
+-- a row's posts are posts of the plot
+pub row-in : {rows : ℕ} (columns r : ℕ) → r < rows → r * columns + columns ≤ rows * columns
+row-in columns r h = omega (arith, mul-le-mul-right columns h, suc-mul r columns)
 
 pub filled-none : (pl : Plot) (from : ℕ) (dales hills : List ℕ) → BothFilled pl from 0 dales hills dales hills
 unfolding stores

@@ -1,5 +1,5 @@
 -- Two lists of a plot's size that are filled together: one with next down, from which dales come, and one with next up, from which hills come.
-use Prim.Native.Nat.{ℕ, _-_}
+use Prim.Native.Nat.{ℕ}
 use mathlib.Core.Path.{_≡_}
 use mathlib.Core.List.{List}
 use lib.ListN.{length}
@@ -18,9 +18,6 @@ pub record BothFilled (pl : Plot) (from n : ℕ) (dales₀ hills₀ dales hills 
   pub downward : dales ≡ stores (next (down pl)) from n dales₀
   pub upward : hills ≡ stores (next (up pl)) from n hills₀
 
--- the entries of every row between the top and the bottom one, and those of every post
-abbrev pub RowsFilled : Plot → List ℕ → List ℕ → List ℕ → List ℕ → Type 0
-RowsFilled pl = BothFilled pl pl.columns (posts pl - pl.columns - pl.columns)
-
+-- and after those of every post were
 abbrev pub AllFilled : Plot → List ℕ → List ℕ → List ℕ → List ℕ → Type 0
 AllFilled pl = BothFilled pl 0 (posts pl)

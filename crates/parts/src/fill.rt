@@ -6,10 +6,10 @@ use surface::Grid;
 use surface::UP;
 ghost use mathlib.Core.Path.{_≡_};
 ghost use mathlib.Core.Bool.{false};
-ghost use Prim.Native.Nat.{ℕ, _+_, _≤_, _<_};
+ghost use Prim.Native.Nat.{ℕ, _+_, _*_, _≤_, _<_};
 ghost use Rattle.surface.specs.Plot.{plotOf, posts};
 ghost use Rattle.surface.specs.Edges.{isBorder};
-ghost use Rattle.parts.specs.Filled.{ForParts, BothFilled, RowsFilled, AllFilled};
+ghost use Rattle.parts.specs.Filled.{ForParts, BothFilled, AllFilled};
 
 // Of n posts from post `from` on.
 fn fill_anywhere(
@@ -54,33 +54,32 @@ fn fill_inside(
     }
 }
 
-// Of every row between the top and the bottom one: its first post, those inside, its last post.
-fn fill_rows(heights: &[i32], grid: Grid, dales: &mut [u16], hills: &mut [u16])
-    requires { ⌜ ForParts (plotOf grid (now heights)) (now dales) (now hills) ⌝ }
-    ensures { λ _. ⌜ RowsFilled (plotOf grid (now (heights .entry))) (now (dales .entry)) (now (hills .entry)) (now (dales .exit)) (now (hills .exit)) ⌝ }
+// Of row r. The top and the bottom row are on a border; of a row between, its two ends are.
+fn fill_row(heights: &[i32], grid: Grid, r: usize, dales: &mut [u16], hills: &mut [u16])
+    requires { ⌜ ForParts (plotOf grid (now heights)) (now dales) (now hills) × (r < grid .rows) ⌝ }
+    ensures { λ _. ⌜ BothFilled (plotOf grid (now (heights .entry))) (r * grid .columns) (grid .columns) (now (dales .entry)) (now (hills .entry)) (now (dales .exit)) (now (hills .exit)) ⌝ }
 {
-    let rows = grid.rows;
     let columns = grid.columns;
-    let inner = columns - 2;
-    let mut r = 1;
-    while r + 1 < rows {
-        let first = r * columns;
-        let last = first + 1 + inner;
-        fill_anywhere(heights, grid, first, 1, dales, hills);
-        fill_inside(heights, grid, first + 1, inner, dales, hills);
-        fill_anywhere(heights, grid, last, 1, dales, hills);
-        r += 1;
+    let first = r * columns;
+    if (r == 0) | (r + 1 == grid.rows) {
+        fill_anywhere(heights, grid, first, columns, dales, hills);
+        return;
     }
+    let inner = columns - 2;
+    fill_anywhere(heights, grid, first, 1, dales, hills);
+    fill_inside(heights, grid, first + 1, inner, dales, hills);
+    fill_anywhere(heights, grid, first + 1 + inner, 1, dales, hills);
 }
 
-// Of every post: the top row, the rows between, the bottom row.
+// Of every post.
 pub(crate) fn fill_nexts(heights: &[i32], grid: Grid, dales: &mut [u16], hills: &mut [u16])
     requires { ⌜ ForParts (plotOf grid (now heights)) (now dales) (now hills) ⌝ }
     ensures { λ _. ⌜ AllFilled (plotOf grid (now (heights .entry))) (now (dales .entry)) (now (hills .entry)) (now (dales .exit)) (now (hills .exit)) ⌝ }
 {
-    let columns = grid.columns;
-    let bottom = grid.rows * columns - columns;
-    fill_anywhere(heights, grid, 0, columns, dales, hills);
-    fill_rows(heights, grid, dales, hills);
-    fill_anywhere(heights, grid, bottom, columns, dales, hills);
+    let rows = grid.rows;
+    let mut r = 0;
+    while r < rows {
+        fill_row(heights, grid, r, dales, hills);
+        r += 1;
+    }
 }

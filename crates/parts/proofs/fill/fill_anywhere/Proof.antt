@@ -2,7 +2,6 @@
 use Prim.Native.Nat.{_+_, _-_, _≤_}
 use native.Mathlib.Omega.{arith}
 use mathlib.Core.Path.{_≡_}
-use mathlib.Core.Bool.{true, false}
 use Rattle.surface.specs.Plot.{plotOf, PostOf}
 use Rattle.parts.specs.Filled.{ForParts, BothFilled}
 use Rattle.parts.proofs.Filled.{next-fits, filled-none, filled-more, filled-lists, dales-long, hills-long}
@@ -36,7 +35,7 @@ next-at-requires : tie.Need-next-at-requires Inv-loop μ-loop
 next-at-requires c κs = post c
 
 cast-dales : tie.Need-cast-dales Inv-loop μ-loop
-cast-dales c = let p = post (c .before) in omega (arith, c .next-at .ensures, next-fits (p .valid) false _ (p .post))
+cast-dales c = omega (arith, c .next-at .ensures, next-fits (post (c .before)))
 
 mul-dales : tie.Need-mul-dales Inv-loop μ-loop
 mul-dales c = omega (arith, post (c .before) .post, post (c .before) .valid .sides)
@@ -48,7 +47,7 @@ next-at-requires-2 : tie.Need-next-at-requires-2 Inv-loop μ-loop
 next-at-requires-2 c κs = post (c .before)
 
 cast-hills : tie.Need-cast-hills Inv-loop μ-loop
-cast-hills c = let p = post (c .before .before) in omega (arith, c .next-at2 .ensures, next-fits (p .valid) true _ (p .post))
+cast-hills c = omega (arith, c .next-at2 .ensures, next-fits (post (c .before .before)))
 
 mul-hills : tie.Need-mul-hills Inv-loop μ-loop
 mul-hills c = omega (arith, post (c .before .before) .post, post (c .before .before) .valid .sides)

@@ -2,7 +2,7 @@
 use Prim.Native.Nat.{_+_, _-_, _≤_}
 use native.Mathlib.Omega.{arith}
 use mathlib.Core.Path.{_≡_}
-use mathlib.Core.Bool.{true, false}
+use mathlib.Core.Bool.{false}
 use Rattle.surface.specs.Plot.{plotOf, PostOf}
 use Rattle.surface.specs.Edges.{isBorder}
 use Rattle.parts.specs.Filled.{ForParts, BothFilled}
@@ -42,7 +42,7 @@ next-inside-requires : tie.Need-next-inside-requires Inv-loop μ-loop
 next-inside-requires c κs = inside c
 
 cast-dales : tie.Need-cast-dales Inv-loop μ-loop
-cast-dales c = let p = post (c .before) in omega (arith, c .next-inside .ensures, next-fits (p .valid) false _ (p .post))
+cast-dales c = omega (arith, c .next-inside .ensures, next-fits (post (c .before)))
 
 mul-dales : tie.Need-mul-dales Inv-loop μ-loop
 mul-dales c = omega (arith, post (c .before) .post, post (c .before) .valid .sides)
@@ -54,7 +54,7 @@ next-inside-requires-2 : tie.Need-next-inside-requires-2 Inv-loop μ-loop
 next-inside-requires-2 c κs = inside (c .before)
 
 cast-hills : tie.Need-cast-hills Inv-loop μ-loop
-cast-hills c = let p = post (c .before .before) in omega (arith, c .next-inside2 .ensures, next-fits (p .valid) true _ (p .post))
+cast-hills c = omega (arith, c .next-inside2 .ensures, next-fits (post (c .before .before)))
 
 mul-hills : tie.Need-mul-hills Inv-loop μ-loop
 mul-hills c = omega (arith, post (c .before .before) .post, post (c .before .before) .valid .sides)

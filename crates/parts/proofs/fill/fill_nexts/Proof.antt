@@ -1,61 +1,49 @@
--- The top row, the rows between and the bottom row, one after the other.
-use Prim.Native.Nat.{_-_, _*_}
+-- The loop's invariant: the first r rows are filled.
+use Prim.Native.Nat.{_-_, _*_, _≤_}
 use native.Mathlib.Omega.{arith}
+use native.Mathlib.Nat.{zero-mul, add-mul, one-mul}
+use mathlib.Core.Path.{_≡_}
 use Rattle.surface.specs.Plot.{plotOf}
-use Rattle.surface.proofs.AnyOrder.Grid.{row-fits}
-use Rattle.parts.specs.Filled.{AllFilled}
-use Rattle.parts.proofs.Filled.{filled-join, filled-lists, dales-long, hills-long}
+use Rattle.parts.specs.Filled.{BothFilled}
+use Rattle.parts.proofs.Filled.{filled-none, filled-join, filled-lists, dales-long, hills-long}
 use Rattle.parts.proofs.fill.fill_nexts.Statement.{statement}
 use Rattle.parts.proofs.fill.fill_nexts.Tie as tie
 
--- from the bottom row back to the rows between, and to the top row
-abbrev between : tie.After-fill-anywhere2 → tie.After-fill-rows
-between c = c .before .before .before .before .before .before .before
+abbrev Inv-loop : tie.InvT-loop
+Inv-loop heights grid dales₀ hills₀ rows r₀ dales hills r = (r ≤ rows) × BothFilled (plotOf grid heights) 0 (r * grid .columns) dales₀ hills₀ dales hills
 
-abbrev top : tie.After-fill-rows → tie.After-fill-anywhere
-top c = c .before .before .before .before .before .before .before
+abbrev μ-loop : tie.MeasureT-loop
+μ-loop heights grid dales₀ hills₀ rows r₀ dales hills r = rows - r
 
-abbrev start : tie.After-fill-anywhere → tie.Start
-start c = c .before .before .before .before .before .before
+loop-holds : tie.Need-loop-holds Inv-loop μ-loop
+loop-holds c = (omega arith, rw (zero-mul (c .before .before .args .grid .columns)) (filled-none _ _ _ _))
 
--- the whole
-filled : (c : tie.After-fill-anywhere2)
-    → let a = start (top (between c)) .args in
-    AllFilled (plotOf (a .grid) (a .heights .now)) (a .dales .now) (a .hills .now) (c .fill-anywhere2 .last .1 .1 .1 .1 .0) (c .fill-anywhere2 .last .1 .1 .1 .1 .1 .0)
-filled c =
-    let t = top (between c) in
-    let g = start t .args .grid in
-    let k = g .columns in
-    let n = g .rows * k in
-    let w = row-fits (start t .pre .valid .sides) in
-    filled-join (filled-join (t .fill-anywhere .ensures) (between c .fill-rows .ensures) (n - k) (omega arith) (omega arith)) (c .fill-anywhere2 .ensures) n (omega arith) (omega arith)
+fill-row-requires : tie.Need-fill-row-requires Inv-loop μ-loop
+fill-row-requires c κs = let l = c .before .before .before in (filled-lists (l .loop .inv .1) (c .before .before .before .before .before .before .pre), c .before .before .loop-test .taken)
 
-mul-bottom : tie.Need-mul-bottom
-mul-bottom c = omega (arith, c .before .before .before .pre .valid .sides)
+add-r : tie.Need-add-r Inv-loop μ-loop
+add-r c = let t = c .before .before .before .before .before .before .before in omega (arith, t .loop-test .taken, t .before .before .before .before .pre .valid .sides)
 
-sub-bottom : tie.Need-sub-bottom
-sub-bottom c = omega (arith, row-fits (c .before .before .before .pre .valid .sides))
+loop-less : tie.Need-loop-less Inv-loop μ-loop
+loop-less c = omega arith
 
-fill-anywhere-requires : tie.Need-fill-anywhere-requires
-fill-anywhere-requires c κs = (c .before .before .before .before .before .pre, omega (arith, row-fits (c .before .before .before .before .before .pre .valid .sides)))
+loop-again : tie.Need-loop-again Inv-loop μ-loop
+loop-again c =
+    let f = c .before .before .before .before in
+    let l = f .before .before .before .before in
+    let k = l .before .before .before .args .grid .columns in
+    (omega arith, filled-join (l .loop .inv .1) (f .fill-row .ensures) _ (omega arith) (omega (arith, add-mul (l .loop .r) 1 k, one-mul k)))
 
-fill-rows-requires : tie.Need-fill-rows-requires
-fill-rows-requires c κs = let t = c .before .before .before .before .before .before in filled-lists (t .fill-anywhere .ensures) (start t .pre)
+same-length : tie.Need-same-length Inv-loop μ-loop
+same-length c = dales-long (c .before .loop .inv .1)
 
-fill-anywhere-requires-2 : tie.Need-fill-anywhere-requires-2
-fill-anywhere-requires-2 c κs =
-    let r = c .before .before .before .before .before .before in
-    let t = top r in
-    (filled-lists (r .fill-rows .ensures) (filled-lists (t .fill-anywhere .ensures) (start t .pre)), omega (arith, row-fits (start t .pre .valid .sides)))
+same-length-2 : tie.Need-same-length-2 Inv-loop μ-loop
+same-length-2 c = hills-long (c .before .loop .inv .1)
 
-same-length : tie.Need-same-length
-same-length c = dales-long (filled (c .before .before .before .before))
-
-same-length-2 : tie.Need-same-length-2
-same-length-2 c = hills-long (filled (c .before .before .before .before))
-
-returns : tie.Need-returns
-returns c = filled (c .before .before .before .before)
+returns : tie.Need-returns Inv-loop μ-loop
+returns c =
+    let e : c .before .loop .r ≡ c .before .before .before .before .args .grid .rows = omega arith in
+    rw e at (c .before .loop .inv .1)
 
 pub fill-nexts-spec : {M : Type 1} → statement M
-fill-nexts-spec = tie.close (tie.spec mul-bottom sub-bottom fill-anywhere-requires fill-rows-requires fill-anywhere-requires-2 same-length same-length-2 returns)
+fill-nexts-spec = tie.close (tie.spec Inv-loop μ-loop loop-holds fill-row-requires add-r loop-less loop-again same-length same-length-2 returns)
