@@ -20,11 +20,6 @@ entry (x ∷ l) zero d e h = refl
 entry (x ∷ l) (suc i) d e h = entry l i d e (omega arith)
 
 module _ (l : List ℕ) where
-  -- how many steps lead from p to an end, n at most
-  unfoldable pub steps : ℕ → ℕ → ℕ
-  steps zero p = 0
-  steps (suc n) p = cond (eqb (follow l p) p) 0 (suc (steps n (follow l p)))
-
   pub outside : (p : ℕ) → length l ≤ p → follow l p ≡ p
   outside p h = List·getD-eq-default l p h
 
@@ -33,6 +28,11 @@ module _ (l : List ℕ) where
   along-stays zero p h = refl
   along-stays (suc k) p h = rw h (along-stays k p h)
 
+  along-add : (j k p : ℕ) → along l k (along l j p) ≡ along l (j + k) p
+  unfolding along
+  along-add zero k p = let e : zero + k ≡ k = omega arith in rw e
+  along-add (suc j) k p = let e : suc j + k ≡ suc (j + k) = omega arith in rw e (along-add j k (follow l p))
+
   -- the post that p's entry names, or p where it names none, has what two steps lead to as its entry
   pub two-steps : (p : ℕ) → p < length l → (b : Bool) → ltb (getD l p 0) (length l) ≡ b
       → (cond b (getD l p 0) p < length l) × (follow l (cond b (getD l p 0) p) ≡ along l 2 p)
@@ -40,39 +40,15 @@ module _ (l : List ℕ) where
   two-steps p h true k = (ltb-true (getD l p 0) (length l) k, ap (follow l) (entry l p 0 p h))
   two-steps p h false k = (h, sym (outside (follow l p) (omega (arith, ltb-false (getD l p 0) (length l) k, entry l p 0 p h))))
 
-  along-one : (k p : ℕ) → along l k (follow l p) ≡ follow l (along l k p)
-  unfolding along
-  along-one zero p = refl
-  along-one (suc k) p = along-one k (follow l p)
+  -- how many steps lead from p to an end, n at most; where n are enough, more find no more
+  unfoldable pub steps : ℕ → ℕ → ℕ
+  steps zero p = 0
+  steps (suc n) p = cond (eqb (follow l p) p) 0 (suc (steps n (follow l p)))
 
-  along-swap : (j k p : ℕ) → along l j (along l k p) ≡ along l k (along l j p)
-  unfolding along
-  along-swap zero k p = refl
-  along-swap (suc j) k p = rw (sym (along-one k p)) (along-swap j k (follow l p))
-
-  steps-low : (n p : ℕ) → steps n p ≤ n
-  unfolding steps
-  steps-low zero p = omega arith
-  steps-low (suc n) p = go (eqb (follow l p) p) (steps-low n (follow l p))
-    where
-      go : (b : Bool) → steps n (follow l p) ≤ n → cond b 0 (suc (steps n (follow l p))) ≤ suc n
-      go true h = omega arith
-      go false h = omega arith
-
-  -- past the end there is nothing to count
-  steps-enough : (n p : ℕ) → follow l (along l n p) ≡ along l n p → steps (suc n) p ≡ steps n p
+  steps-enough : (n p : ℕ) → follow l (along l n p) ≡ along l n p → steps n p ≡ cond (eqb (follow l p) p) 0 (suc (steps n (follow l p)))
   unfolding along steps
   steps-enough zero p h = rw (eq-eqb (follow l p) p h)
-  steps-enough (suc n) p h = rw (steps-enough n (follow l p) h)
-
-  steps-on : (n p : ℕ) → (follow l p ≡ p → ⊥) → steps (suc n) p ≡ suc (steps n (follow l p))
-  unfolding steps
-  steps-on n p h = rw (ne-eqb (follow l p) p h)
-
-  steps-fall : (n p : ℕ) → follow l (along l n p) ≡ along l n p → (follow l p ≡ p → ⊥) → steps n (follow l p) < steps n p
-  unfolding along
-  steps-fall zero p h k = absurd (k h)
-  steps-fall (suc n) p h k = omega (arith, steps-enough n (follow l p) h, steps-on n p k)
+  steps-enough (suc n) p h = rw (← (steps-enough n (follow l p) h))
 
 -- how many steps lead from p to the end of its path
 abbrev pub stepsLeft : List ℕ → ℕ → ℕ
@@ -80,15 +56,8 @@ stepsLeft l p = steps l (length l) p
 
 module _ {l : List ℕ} (ends : Ends l) where
   -- a step leads nearer to the same end
-  pub nearer : (p : ℕ) → (follow l p ≡ p → ⊥) → stepsLeft l (follow l p) < stepsLeft l p
-  nearer p h = steps-fall l (length l) p (ends .stays p) h
-
-  pub same-end : (k p : ℕ) → pathEnd l (along l k p) ≡ pathEnd l p
-  same-end k p = along-swap l (length l) k p ∙ along-stays l k (pathEnd l p) (ends .stays p)
-
-  -- where a further step does not move, the steps have led to the end
-  pub end-along : (k p : ℕ) → follow l (along l k p) ≡ along l k p → pathEnd l p ≡ along l k p
-  end-along k p h = sym (same-end k p) ∙ along-stays l (length l) (along l k p) h
+  nearer : (p : ℕ) → (follow l p ≡ p → ⊥) → stepsLeft l p ≡ suc (stepsLeft l (follow l p))
+  nearer p h = rw (ne-eqb (follow l p) p h) at (steps-enough l (length l) p (ends .stays p))
 
   no-farther : (k p : ℕ) → stepsLeft l (along l k p) ≤ stepsLeft l p
   unfolding along
@@ -99,32 +68,33 @@ module _ {l : List ℕ} (ends : Ends l) where
       go (yes e) h = omega (arith, ap (stepsLeft l) e)
       go (no e) h = omega (arith, nearer p e)
 
-  pub along-nearer : (k p : ℕ) → (follow l p ≡ p → ⊥) → stepsLeft l (along l (suc k) p) < stepsLeft l p
+  along-nearer : (k p : ℕ) → (follow l p ≡ p → ⊥) → stepsLeft l (along l (suc k) p) < stepsLeft l p
   unfolding along
   along-nearer k p h = omega (arith, no-farther k (follow l p), nearer p h)
 
-  -- shorter paths end where the paths did
-  module _ {l′ : List ℕ} (s : Shorter l l′) where
-    stays-too : (p : ℕ) → follow l p ≡ p → follow l′ p ≡ p
-    stays-too p h = let a = s .further p in a .1 ∙ along-stays l (suc (a .0)) p h
+  past-end : (k p : ℕ) → along l (length l + k) p ≡ pathEnd l p
+  past-end k p = sym (along-add l (length l) k p) ∙ along-stays l k (pathEnd l p) (ends .stays p)
 
-    reached : (m p : ℕ) → stepsLeft l p ≤ m → along l′ m p ≡ pathEnd l p
+  same-end : (k p : ℕ) → pathEnd l (along l k p) ≡ pathEnd l p
+  same-end k p = let e : k + length l ≡ length l + k = omega arith in along-add l k (length l) p ∙ rw e (past-end k p)
+
+  -- where a further step does not move, the steps have led to the end
+  pub end-along : (k p : ℕ) → follow l (along l k p) ≡ along l k p → pathEnd l p ≡ along l k p
+  end-along k p h = sym (same-end k p) ∙ along-stays l (length l) (along l k p) h
+
+  -- shorter paths end where the paths did: as many steps lead at least as far
+  module _ {l′ : List ℕ} (s : Shorter l l′) where
+    at-least : (m p : ℕ) → (k : ℕ) × (along l′ m p ≡ along l (m + k) p)
     unfolding along
-    reached zero p h = go (ℕ-discrete (follow l p) p)
-      where
-        go : Dec (follow l p ≡ p) → p ≡ pathEnd l p
-        go (yes e) = sym (along-stays l (length l) p e)
-        go (no e) = absurd (omega (arith, nearer p e))
-    reached (suc m) p h = go (ℕ-discrete (follow l p) p) (reached m (follow l′ p))
-      where
-        go : Dec (follow l p ≡ p) → (stepsLeft l (follow l′ p) ≤ m → along l′ m (follow l′ p) ≡ pathEnd l (follow l′ p)) → along l′ m (follow l′ p) ≡ pathEnd l p
-        go (yes e) ih = along-stays l′ (suc m) p (stays-too p e) ∙ sym (along-stays l (length l) p e)
-        go (no e) ih =
-            let a = s .further p in
-            ih (omega (arith, ap (stepsLeft l) (a .1), along-nearer (a .0) p e)) ∙ ap (pathEnd l) (a .1) ∙ same-end (suc (a .0)) p
+    at-least zero p = (0, refl)
+    at-least (suc m) p =
+        let a = s .further p in
+        let b = at-least m (follow l′ p) in
+        let e : suc (a .0) + (m + b .0) ≡ suc m + (a .0 + b .0) = omega arith in
+        (a .0 + b .0, b .1 ∙ ap (along l (m + b .0)) (a .1) ∙ along-add l (suc (a .0)) (m + b .0) p ∙ ap (λ (n : ℕ). along l n p) e)
 
     pub shorter-end : (p : ℕ) → pathEnd l′ p ≡ pathEnd l p
-    shorter-end p = rw (s .size) (reached (length l) p (steps-low l (length l) p))
+    shorter-end p = let b = at-least (length l) p in rw (s .size) (b .1 ∙ past-end (b .0) p)
 
     -- an end's entry is the end, and an entry that is its path's end stays
     pub shorter-told : (p : ℕ) → follow l p ≡ pathEnd l p → follow l′ p ≡ pathEnd l p
@@ -141,7 +111,10 @@ module _ {l : List ℕ} (ends : Ends l) where
         go (no e) = shorter-told (at j) (t j (omega arith))
 
     pub shorter-ends : Ends l′
-    shorter-ends = record { stays = λ p. rw (shorter-end p) (stays-too (pathEnd l p) (ends .stays p)) }
+    shorter-ends =
+        record {
+          stays = λ p. let a = s .further (pathEnd l p) in rw (shorter-end p) (a .1 ∙ along-stays l (suc (a .0)) (pathEnd l p) (ends .stays p));
+        }
 
 pub shorter-none : (l : List ℕ) → Shorter l l
 unfolding along
