@@ -28,6 +28,13 @@ module _ (l : List ℕ) where
   along-stays zero p h = refl
   along-stays (suc k) p h = rw h (along-stays k p h)
 
+  -- what is not the end of its path goes on, so it has an entry
+  pub goes-on : (p : ℕ) → (p ≡ pathEnd l p → ⊥) → follow l p ≡ p → ⊥
+  goes-on p h k = h (sym (along-stays (length l) p k))
+
+  pub has-entry : (p : ℕ) → (p ≡ pathEnd l p → ⊥) → p < length l
+  has-entry p h = either (ltb p (length l)) (ltb-true p (length l)) (λ b. absurd (goes-on p h (outside p (ltb-false p (length l) b))))
+
   along-add : (j k p : ℕ) → along l k (along l j p) ≡ along l (j + k) p
   unfolding along
   along-add zero k p = let e : zero + k ≡ k = omega arith in rw e
@@ -122,26 +129,14 @@ shorter-none l = record { size = refl; further = λ p. (0, refl) }
 
 -- what a walk reads and stores in a list of shorter paths, at a post e
 module _ {l l′ : List ℕ} (s : Shorter l l′) (e : ℕ) where
-  -- a post that is not its end
-  pub record Under : Type 0 where
-    pub inside : e < length l
-    pub moves : follow l e ≡ e → ⊥
-
-  pub under : (e ≡ pathEnd l e → ⊥) → Under
-  under h =
-      record {
-        inside = either (ltb e (length l)) (ltb-true e (length l)) (λ b. absurd (h (sym (along-stays l (length l) e (outside l e (ltb-false e (length l) b))))));
-        moves = λ k. h (sym (along-stays l (length l) e k));
-      }
-
   read : e < length l → getD l′ e 0 ≡ along l (suc (s .further e .0)) e
   read h = entry l′ e 0 e (omega (arith, s .size)) ∙ s .further e .1
 
   pub read-end : Ends l → e < length l → pathEnd l (getD l′ e 0) ≡ pathEnd l e
   read-end ends h = ap (pathEnd l) (read h) ∙ same-end ends (suc (s .further e .0)) e
 
-  pub read-nearer : Ends l → Under → stepsLeft l (getD l′ e 0) < stepsLeft l e
-  read-nearer ends u = omega (arith, ap (stepsLeft l) (read (u .inside)), along-nearer ends (s .further e .0) e (u .moves))
+  pub read-nearer : Ends l → e < length l → (follow l e ≡ e → ⊥) → stepsLeft l (getD l′ e 0) < stepsLeft l e
+  read-nearer ends h m = omega (arith, ap (stepsLeft l) (read h), along-nearer ends (s .further e .0) e m)
 
   -- a store of the end
   pub store-end : Ends l → e < length l → (x : ℕ) → pathEnd l e ≡ x → Shorter l (set l′ e x)

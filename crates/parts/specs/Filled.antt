@@ -13,11 +13,11 @@ pub record ForParts (pl : Plot) (dales hills : List ℕ) : Type 0 where
   pub dalesSize : length dales ≡ posts pl
   pub hillsSize : length hills ≡ posts pl
 
--- what the first two lists are after the entries of n posts, from post `from` on, were filled
+-- dales₀ and hills₀ became dales and hills when the entries of n posts, from post `from` on, were filled
 pub record BothFilled (pl : Plot) (from n : ℕ) (dales₀ hills₀ dales hills : List ℕ) : Type 0 where
   pub downward : dales ≡ stores (next (down pl)) from n dales₀
   pub upward : hills ≡ stores (next (up pl)) from n hills₀
 
--- and after those of every post were
+-- when those of every post were
 abbrev pub AllFilled : Plot → List ℕ → List ℕ → List ℕ → List ℕ → Type 0
 AllFilled pl = BothFilled pl 0 (posts pl)

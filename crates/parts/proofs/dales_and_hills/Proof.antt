@@ -1,12 +1,10 @@
 -- A refusal is handed on, and the ends of the paths that the next posts make are the names asked for.
-use mathlib.Core.Path.{_≡_, sym, _∙_, ap}
+use mathlib.Core.Path.{sym, _∙_}
 use Rattle.surface.specs.Plot.{Plot, plot}
-use Rattle.surface.specs.Refusals.{partsVerdict}
 use Rattle.surface.specs.Calls.{partsAnswer}
-use Rattle.surface.specs.declared.Answer.{Answer}
 use Rattle.parts.specs.Filled.{ForParts}
 use Rattle.parts.proofs.Descents.{dales-end, hills-end, dales-named, hills-named}
-use Rattle.parts.proofs.Outcome.{parts-valid, parts-kept, parts-filled}
+use Rattle.parts.proofs.Outcome.{code, parts-valid, parts-kept, parts-filled}
 use borrow.Author.Needs.{needs}
 use Rattle.parts.proofs.dales_and_hills.Statement.{statement}
 use Rattle.parts.proofs.dales_and_hills.Tie as tie
@@ -18,12 +16,9 @@ start v = v .before .before .before .before .before
 abbrev asked : tie.After-verdict → Plot
 asked v = let a = start v .args in plot (a .rows) (a .columns) (a .heights .now)
 
-code : (v : tie.After-verdict) → v .verdict .result .code ≡ partsVerdict (asked v) (start v .args .dales .now) (start v .args .hills .now) .code
-code v = ap (λ (r : Answer). r .code) (v .verdict .ensures)
-
 -- what an accepted call was lent
 lent : (c : tie.Else1) → let v = c .before .before in ForParts (asked v) (start v .args .dales .now) (start v .args .hills .now)
-lent c = parts-valid _ _ _ (sym (code (c .before .before)) ∙ c .if1 .left)
+lent c = parts-valid _ _ _ (sym (code (c .before .before .verdict .ensures)) ∙ c .if1 .left)
 
 -- acceptance, from the filled lists
 abbrev accepted : tie.After-fill-nexts → tie.Else1
@@ -42,7 +37,7 @@ returns : tie.Need-returns
 unfolding partsAnswer
 returns c =
     let v = c .before .before in
-    let k = parts-kept _ _ _ (λ e. c .if1 .taken (code v ∙ e)) in
+    let k = parts-kept _ _ _ (λ e. c .if1 .taken (code (v .verdict .ensures) ∙ e)) in
     (v .verdict .ensures, (k .0, k .1))
 
 fill-nexts-requires : tie.Need-fill-nexts-requires
@@ -68,7 +63,7 @@ returns-2 c =
     let f = d .before .before .before .before .before .before in
     let a = accepted f in
     let v = a .before .before in
-    let k = parts-filled _ _ _ (sym (code v) ∙ a .if1 .left) in (
+    let k = parts-filled _ _ _ (sym (code (v .verdict .ensures)) ∙ a .if1 .left) in (
       v .verdict .ensures,
       (
         d .shorten .ensures ∙ dales-named (lent a) (f .fill-nexts .ensures) ∙ k .0,

@@ -1,18 +1,14 @@
 -- Rows 1 and 2 lead, then row 3, then row 4.
-use mathlib.Core.Path.{_≡_, sym, _∙_, ap}
+use mathlib.Core.Path.{_≡_, sym, _∙_}
 use mathlib.Core.List.{[], _∷_}
 use native.Mathlib.Omega.{arith}
 use Rattle.surface.specs.Plot.{Plot, plot}
 use Rattle.surface.specs.Refusals.{verdict, row1, row2}
-use Rattle.surface.specs.declared.Answer.{Answer}
 use Rattle.surface.proofs.OfCalls.Accepted.{plot-sized}
-use Rattle.parts.proofs.Outcome.{size-refused, lists-refused, lists-passed}
+use Rattle.parts.proofs.Outcome.{code, size-refused, lists-refused, lists-passed}
 use borrow.Author.Needs.{needs}
 use Rattle.parts.proofs.verdict.Statement.{statement}
 use Rattle.parts.proofs.verdict.Tie as tie
-
-code : {a b : Answer} → a ≡ b → a .code ≡ b .code
-code e = ap (λ (x : Answer). x .code) e
 
 abbrev start : tie.Else1 → tie.Start
 start c = c .before .before .before .before .before

@@ -8,7 +8,7 @@ use Rattle.surface.specs.Plot.{plotOf}
 use Rattle.surface.proofs.General.Bools.{or-left, or-right}
 use Rattle.post.specs.Rows.{Between}
 use Rattle.post.proofs.Rows.{between-border, row-between}
-use Rattle.parts.specs.Filled.{ForParts, BothFilled}
+use Rattle.parts.specs.Filled.{BothFilled}
 use Rattle.parts.proofs.Filled.{row-in, filled-join, filled-lists, dales-long, hills-long}
 use Rattle.parts.proofs.fill.fill_row.Statement.{statement}
 use Rattle.parts.proofs.fill.fill_row.Tie as tie
@@ -22,7 +22,7 @@ between e =
     let t = e .if1 .left in
     row-between r (omega (arith, eqb-false r 0 (or-left _ (eqb (r + 1) rows) t))) (omega (arith, s .pre .1, eqb-false (r + 1) rows (or-right (eqb r 0) _ t)))
 
--- such a row's first post, from those inside, and its test
+-- such a row's first post, from those inside; and from there the test and the function's entry
 abbrev first : tie.After-fill-inside → tie.After-fill-anywhere2
 first c = c .before .before .before .before .before .before .before
 
@@ -32,14 +32,9 @@ tested c = c .before .before .before
 abbrev start : tie.After-fill-anywhere2 → tie.Start
 start c = tested c .before .before .before .before
 
--- the lists before those inside, and before its last post
-lent : (c : tie.After-fill-anywhere2) → let a = start c .args in ForParts (plotOf (a .grid) (a .heights .now)) (c .fill-anywhere2 .last .1 .1 .1 .1 .0) (c .fill-anywhere2 .last .1 .1 .1 .1 .1 .0)
-lent c = filled-lists (c .fill-anywhere2 .ensures) (start c .pre .0)
-
 -- the whole row
 filled : (c : tie.After-fill-anywhere3)
-    → let s = start (first (c .before .before .before .before .before .before .before)) in
-    let a = s .args in
+    → let a = start (first (c .before .before .before .before .before .before .before)) .args in
     BothFilled (plotOf (a .grid) (a .heights .now)) (a .r * a .grid .columns) (a .grid .columns) (a .dales .now) (a .hills .now) (c .fill-anywhere3 .last .1 .1 .1 .1 .0) (c .fill-anywhere3 .last .1 .1 .1 .1 .1 .0)
 filled c =
     let i = c .before .before .before .before .before .before .before in
@@ -79,7 +74,7 @@ fill-inside-requires c κs =
     let f = c .before .before .before .before .before .before in
     let s = start f .pre .0 .valid .sides in
     let b = between (tested f) in (
-      (lent f, omega (arith, b, s)),
+      (filled-lists (f .fill-anywhere2 .ensures) (start f .pre .0), omega (arith, b, s)),
       λ i h.
           let p = start f .args .r * start f .args .grid .columns in
           let e : p + 1 + i ≡ p + (1 + i) = omega arith in
@@ -96,7 +91,7 @@ fill-anywhere-requires-3 : tie.Need-fill-anywhere-requires-3
 fill-anywhere-requires-3 c κs =
     let i = c .before .before .before .before .before .before in
     let f = first i in
-    (filled-lists (i .fill-inside .ensures) (lent f), omega (arith, between (tested f), start f .pre .0 .valid .sides))
+    (filled-lists (i .fill-inside .ensures) (filled-lists (f .fill-anywhere2 .ensures) (start f .pre .0)), omega (arith, between (tested f), start f .pre .0 .valid .sides))
 
 same-length-3 : tie.Need-same-length-3
 same-length-3 c = dales-long (filled (c .before .before .before .before))

@@ -38,7 +38,8 @@ loop-less : tie.Need-loop-less Inv-loop μ-loop
 loop-less c =
     let l = c .before .before .before in
     let s = l .before .before in
-    read-nearer (shorter-none _) (l .loop .e) (s .pre .0) (record { inside = c .before .before .if1 .left; moves = λ k. c .if2 .left (entry (s .args .list .now) _ 0 _ (c .before .before .if1 .left) ∙ k) })
+    read-nearer (shorter-none _) (l .loop .e) (s .pre .0) (c .before .before .if1 .left)
+    (λ k. c .if2 .left (entry (s .args .list .now) _ 0 _ (c .before .before .if1 .left) ∙ k))
 
 loop-again : tie.Need-loop-again Inv-loop μ-loop
 loop-again c =
