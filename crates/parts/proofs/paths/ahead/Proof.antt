@@ -1,3 +1,4 @@
+-- The law of two steps.
 use native.Mathlib.Omega.{arith}
 use mathlib.Core.Path.{refl}
 use borrow.Author.Needs.{needs}

@@ -59,18 +59,4 @@ returns-2 c =
     sym (along-stays list (length list) (l .loop .e) (entry list _ _ 0 (c .before .before .if1 .left) ∙ c .if2 .taken)) ∙ l .loop .inv .1
 
 pub end-of-spec : {M : Type 1} → statement M
-end-of-spec =
-    tie.close
-    (tie.spec
-    Inv-loop
-    μ-loop
-    mul-e
-    shared-slice-read-e
-    loop-holds
-    cast-i
-    mul-next
-    shared-slice-read-next
-    loop-less
-    loop-again
-    returns
-    returns-2)
+end-of-spec = tie.close (tie.spec Inv-loop μ-loop mul-e shared-slice-read-e loop-holds cast-i mul-next shared-slice-read-next loop-less loop-again returns returns-2)

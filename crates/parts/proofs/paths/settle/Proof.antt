@@ -1,3 +1,4 @@
+-- Two steps and a third that does not move, or the whole path.
 use mathlib.Core.Path.{_≡_, refl, sym, _∙_, ap}
 use mathlib.Core.Logic.{inl}
 use borrow.Author.Needs.{needs}
@@ -72,20 +73,4 @@ returns-2 : tie.Need-returns-2
 returns-2 c = search needs
 
 pub settle-spec : {M : Type 1} → statement M
-settle-spec =
-    tie.close
-    (tie.spec
-    ahead-requires
-    ahead-requires-2
-    mul-e
-    slice-read-e
-    mul-if1
-    slice-read-if1
-    mul-list
-    slice-write-list
-    same-length
-    returns
-    end-of-requires
-    shorten-path-requires
-    same-length-2
-    returns-2)
+settle-spec = tie.close (tie.spec ahead-requires ahead-requires-2 mul-e slice-read-e mul-if1 slice-read-if1 mul-list slice-write-list same-length returns end-of-requires shorten-path-requires same-length-2 returns-2)

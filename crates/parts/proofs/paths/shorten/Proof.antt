@@ -95,18 +95,4 @@ returns c =
     ∙ sym (getD-listOf (pathEnd was) n q 0 k))
 
 pub shorten-spec : {M : Type 1} → statement M
-shorten-spec =
-    tie.close
-    (tie.spec
-    Inv-loop
-    μ-loop
-    loop-holds
-    sub-choose
-    sub-choose-2
-    choose-requires
-    settle-requires
-    add-i
-    loop-less
-    loop-again
-    same-length
-    returns)
+shorten-spec = tie.close (tie.spec Inv-loop μ-loop loop-holds sub-choose sub-choose-2 choose-requires settle-requires add-i loop-less loop-again same-length returns)

@@ -78,18 +78,4 @@ returns c =
     )
 
 pub shorten-path-spec : {M : Type 1} → statement M
-shorten-path-spec =
-    tie.close
-    (tie.spec
-    Inv-loop
-    μ-loop
-    loop-holds
-    mul-next
-    slice-read-next
-    cast-next
-    mul-list
-    slice-write-list
-    loop-less
-    loop-again
-    same-length
-    returns)
+shorten-path-spec = tie.close (tie.spec Inv-loop μ-loop loop-holds mul-next slice-read-next cast-next mul-list slice-write-list loop-less loop-again same-length returns)
