@@ -1,5 +1,5 @@
 -- A row at once, or its first post, those inside and its last post, one after the other.
-use Prim.Native.Nat.{_+_, _*_}
+use Prim.Native.Nat.{_+_, _*_, _≤_}
 use native.Mathlib.Omega.{arith}
 use mathlib.Core.Path.{_≡_, refl}
 use borrow.Author.Tests.{eqb-false}
@@ -12,6 +12,10 @@ use Rattle.parts.specs.Filled.{BothFilled}
 use Rattle.parts.proofs.Filled.{row-in, filled-join, filled-lists, dales-long, hills-long}
 use Rattle.parts.proofs.fill.fill_row.Statement.{statement}
 use Rattle.parts.proofs.fill.fill_row.Tie as tie
+
+-- the row's posts are posts of the plot
+within : (s : tie.Start) → let g = s .args .grid in s .args .r * g .columns + g .columns ≤ g .rows * g .columns
+within s = row-in (s .args .grid .columns) (s .args .r) (s .pre .1)
 
 -- a row that is neither the top nor the bottom one
 between : (e : tie.Else1) → let a = e .before .before .before .before .args in Between (a .grid .rows) (a .grid .columns) (a .r * a .grid .columns)
@@ -43,13 +47,13 @@ filled c =
     filled-join (filled-join (f .fill-anywhere2 .ensures) (i .fill-inside .ensures) _ refl refl) (c .fill-anywhere3 .ensures) _ (omega arith) (omega arith)
 
 mul-first : tie.Need-mul-first
-mul-first c = let s = c .before .before in omega (arith, row-in (s .args .grid .columns) (s .args .r) (s .pre .1), s .pre .0 .valid .sides)
+mul-first c = omega (arith, within (c .before .before), c .before .before .pre .0 .valid .sides)
 
 add-if1 : tie.Need-add-if1
 add-if1 c = omega (arith, c .before .before .pre .1, c .before .before .pre .0 .valid .sides)
 
 fill-anywhere-requires : tie.Need-fill-anywhere-requires
-fill-anywhere-requires c κs = let s = c .before .before .before .before .before .before in (s .pre .0, row-in (s .args .grid .columns) (s .args .r) (s .pre .1))
+fill-anywhere-requires c κs = let s = c .before .before .before .before .before .before in (s .pre .0, within s)
 
 same-length : tie.Need-same-length
 same-length c = dales-long (c .before .before .before .before .fill-anywhere .ensures)
@@ -64,10 +68,10 @@ sub-inner : tie.Need-sub-inner
 sub-inner c = omega (arith, c .before .before .before .before .pre .0 .valid .sides)
 
 fill-anywhere-requires-2 : tie.Need-fill-anywhere-requires-2
-fill-anywhere-requires-2 c κs = let s = c .before .before .before .before .before .before in (s .pre .0, omega (arith, row-in (s .args .grid .columns) (s .args .r) (s .pre .1), s .pre .0 .valid .sides))
+fill-anywhere-requires-2 c κs = let s = c .before .before .before .before .before .before in (s .pre .0, omega (arith, within s, s .pre .0 .valid .sides))
 
 add-fill-inside : tie.Need-add-fill-inside
-add-fill-inside c = let f = c .before .before .before .before in let s = start f in omega (arith, row-in (s .args .grid .columns) (s .args .r) (s .pre .1), s .pre .0 .valid .sides)
+add-fill-inside c = let s = start (c .before .before .before .before) in omega (arith, within s, s .pre .0 .valid .sides)
 
 fill-inside-requires : tie.Need-fill-inside-requires
 fill-inside-requires c κs =
@@ -82,10 +86,10 @@ fill-inside-requires c κs =
     )
 
 add-fill-anywhere : tie.Need-add-fill-anywhere
-add-fill-anywhere c = let f = first (c .before .before .before .before) in let s = start f in omega (arith, row-in (s .args .grid .columns) (s .args .r) (s .pre .1), s .pre .0 .valid .sides)
+add-fill-anywhere c = let s = start (first (c .before .before .before .before)) in omega (arith, within s, s .pre .0 .valid .sides)
 
 add-fill-anywhere-2 : tie.Need-add-fill-anywhere-2
-add-fill-anywhere-2 c = let f = first (c .before .before .before .before) in let s = start f in omega (arith, row-in (s .args .grid .columns) (s .args .r) (s .pre .1), s .pre .0 .valid .sides)
+add-fill-anywhere-2 c = let s = start (first (c .before .before .before .before)) in omega (arith, within s, s .pre .0 .valid .sides)
 
 fill-anywhere-requires-3 : tie.Need-fill-anywhere-requires-3
 fill-anywhere-requires-3 c κs =
