@@ -1,79 +1,74 @@
--- The paths that a descent's list of next posts makes end where its walks end. Stated over any descent, then of the two directions at once.
-use Prim.Native.Nat.{ℕ, zero, suc, _*_, _≤_, _<_}
+-- The paths that a descent's list of next posts makes end where its walks end. Stated over any descent, then of the two lists of a plot.
+use Prim.Native.Nat.{ℕ, zero, suc, _≤_, _<_}
 use native.Mathlib.Omega.{arith}
 use mathlib.Core.Path.{_≡_, refl, sym, _∙_, ap}
 use mathlib.Core.Logic.{inl, inr}
-use mathlib.Core.Bool.{Bool, true, false, cond}
 use mathlib.Core.List.{List}
 use lib.Dec.{ltb}
-use lib.IntN.{ℤ}
 use lib.ListN.{length}
 use borrow.Author.Tests.{ltb-true, ltb-false}
 use Rattle.surface.specs.Lists.{listOf}
-use Rattle.surface.specs.Plot.{Plot, posts, virtualPit}
-use Rattle.surface.specs.Marks.{ringOf}
-use Rattle.surface.specs.Lines.{isEnd, next, end, lowestOf, daleAt, hillAt, dalesOf, hillsOf}
-use Rattle.surface.proofs.Bools.{either}
-use Rattle.surface.proofs.ListOf.{length-listOf, getD-listOf, listOf-ext}
-use Rattle.plot.proofs.Descents.{next-by, fit, descent, vertex-low}
-use Rattle.surface.proofs.Walks.{next-vertex, Vertex, Descent, next-stop, pit-stop, end-vertex, end-is-stop}
-use Rattle.plot.specs.Fits.{Fits}
-use Rattle.plot.specs.Scan.{toward, nextBy}
-use Rattle.parts.specs.Paths.{follow, after, endIn, Ends}
-use Rattle.parts.proofs.Shorter.{outside, after-stays}
+use Rattle.surface.specs.Plot.{Plot, posts, virtualPit, Vertex}
+use Rattle.surface.specs.Lines.{Descent, isEnd, next, end, down, up, daleAt, hillAt, dalesOf, hillsOf}
+use Rattle.surface.proofs.General.Bools.{either}
+use Rattle.surface.proofs.General.ListOf.{length-listOf, getD-listOf, listOf-ext}
+use Rattle.surface.proofs.General.Stores.{stores-all}
+use Rattle.surface.proofs.AnyOrder.Grid.{plot-fits}
+use Rattle.surface.proofs.AnyOrder.Walks.{Falling, next-vertex, next-stop, pit-stop, end-vertex, end-is-stop}
+use Rattle.surface.proofs.OfPlots.Instance.{down-falling, up-falling}
+use Rattle.parts.specs.Filled.{ForParts, AllFilled}
+use Rattle.parts.specs.Paths.{follow, along, pathEnd, Ends}
+use Rattle.parts.proofs.Shorter.{outside, along-stays}
 
-module _ {n : ℕ} {lower : ℕ → ℕ → Bool} {ring : ℕ → List ℕ} {pick : ℕ → List ℕ → ℕ} (d : Descent n lower ring pick) where
+module _ {n : ℕ} {d : Descent} (law : Falling n d) (fits : n ≤ virtualPit) where
   -- the list of next posts
   abbrev nexts : List ℕ
-  nexts = listOf (next lower ring pick) n
+  nexts = listOf (next d) n
 
-  module _ (fits : n ≤ virtualPit) where
-    follow-next : (p : ℕ) → Vertex n p → follow nexts p ≡ next lower ring pick p
-    follow-next p (inl h) = getD-listOf (next lower ring pick) n p p h
-    follow-next p (inr h) =
-        outside nexts p (omega (arith, length-listOf (next lower ring pick) n)) ∙ sym (next-stop d p (ap (isEnd lower ring pick) h ∙ pit-stop d))
+  follow-next : (p : ℕ) → Vertex n p → follow nexts p ≡ next d p
+  follow-next p (inl h) = getD-listOf (next d) n p p h
+  follow-next p (inr h) = outside nexts p (omega (arith, length-listOf (next d) n)) ∙ sym (next-stop law p (ap (isEnd d) h ∙ pit-stop law))
 
-    after-end : (m p : ℕ) → Vertex n p → after nexts m p ≡ end lower ring pick m p
-    unfolding after end
-    after-end zero p v = refl
-    after-end (suc m) p v = rw (follow-next p v) (after-end m (next lower ring pick p) (next-vertex d p v))
+  along-end : (m p : ℕ) → Vertex n p → along nexts m p ≡ end d m p
+  unfolding along end
+  along-end zero p v = refl
+  along-end (suc m) p v = rw (follow-next p v) (along-end m (next d p) (next-vertex law p v))
 
-    end-is : (p : ℕ) → p < n → endIn nexts p ≡ end lower ring pick n p
-    end-is p h = rw (length-listOf (next lower ring pick) n) (after-end n p (inl h))
+  end-is : (p : ℕ) → p < n → pathEnd nexts p ≡ end d n p
+  end-is p h = rw (length-listOf (next d) n) (along-end n p (inl h))
 
-    pub nexts-end : Ends nexts
-    nexts-end = record { stays = λ p. either (ltb p n) (λ e. post p (ltb-true p n e)) (λ e. beyond p (ltb-false p n e)) }
-      where
-        post : (p : ℕ) → p < n → follow nexts (endIn nexts p) ≡ endIn nexts p
-        post p h =
-            rw (end-is p h) (follow-next (end lower ring pick n p) (end-vertex d n p (inl h)) ∙ next-stop d _ (end-is-stop d p (inl h)))
+  nexts-end : Ends nexts
+  nexts-end = record { stays = λ p. either (ltb p n) (λ e. post p (ltb-true p n e)) (λ e. beyond p (ltb-false p n e)) }
+    where
+      post : (p : ℕ) → p < n → follow nexts (pathEnd nexts p) ≡ pathEnd nexts p
+      post p h = rw (end-is p h) (follow-next (end d n p) (end-vertex law n p (inl h)) ∙ next-stop law _ (end-is-stop law p (inl h)))
 
-        beyond : (p : ℕ) → n ≤ p → follow nexts (endIn nexts p) ≡ endIn nexts p
-        beyond p h =
-            let o = outside nexts p (omega (arith, length-listOf (next lower ring pick) n)) in
-            rw (after-stays nexts (length nexts) p o) o
+      beyond : (p : ℕ) → n ≤ p → follow nexts (pathEnd nexts p) ≡ pathEnd nexts p
+      beyond p h =
+          let o = outside nexts p (omega (arith, length-listOf (next d) n)) in
+          rw (along-stays nexts (length nexts) p o) o
 
-    pub ends-are : listOf (endIn nexts) (length nexts) ≡ listOf (end lower ring pick n) n
-    ends-are = rw (length-listOf (next lower ring pick) n) (listOf-ext (after nexts n) (end lower ring pick n) n (λ p h. after-end n p (inl h)))
+  ends-are : listOf (pathEnd nexts) (length nexts) ≡ listOf (end d n) n
+  ends-are = rw (length-listOf (next d) n) (listOf-ext (along nexts n) (end d n) n (λ p h. along-end n p (inl h)))
 
-module _ {pl : Plot} (fits : Fits pl) where
-  names-are : (up : Bool) → listOf (end (toward pl.heights up) (ringOf pl) (lowestOf (toward pl.heights up)) (posts pl)) (posts pl)
-      ≡ cond up (hillsOf pl) (dalesOf pl)
-  unfolding dalesOf daleAt hillsOf hillAt
-  names-are true = refl
-  names-are false = refl
+module _ {pl : Plot} {dales₀ hills₀ dales hills : List ℕ} (lent : ForParts pl dales₀ hills₀) (f : AllFilled pl dales₀ hills₀ dales hills) where
+  dales-nexts : dales ≡ listOf (next (down pl)) (posts pl)
+  dales-nexts = f .downward ∙ stores-all _ (posts pl) dales₀ 0 (lent .dalesSize)
 
-  -- next posts fit 16 bits
-  pub next-fits : (up : Bool) (p : ℕ) → p < posts pl → nextBy up pl p < 65536
-  next-fits up p h = rw (next-by pl up p) (vertex-low fits _ (next-vertex (descent fits up) p (inl h)))
+  hills-nexts : hills ≡ listOf (next (up pl)) (posts pl)
+  hills-nexts = f .upward ∙ stores-all _ (posts pl) hills₀ 0 (lent .hillsSize)
 
-  -- a list filled with them: its paths come to an end, and the ends are the names of the dales, or of the hills
-  module _ (up : Bool) {l : List ℕ} (filled : l ≡ listOf (nextBy up pl) (posts pl)) where
-    made : l ≡ nexts (descent fits up)
-    made = filled ∙ listOf-ext (nextBy up pl) _ (posts pl) (λ p _. next-by pl up p)
+  pub dales-end : Ends dales
+  dales-end = rw dales-nexts (nexts-end (down-falling pl (lent .valid .sides)) (plot-fits (lent .valid .sides)))
 
-    pub filled-ends : Ends l
-    filled-ends = rw made (nexts-end (descent fits up) (fit fits))
+  pub hills-end : Ends hills
+  hills-end = rw hills-nexts (nexts-end (up-falling pl (lent .valid .sides)) (plot-fits (lent .valid .sides)))
 
-    pub filled-parts : listOf (endIn l) (length l) ≡ cond up (hillsOf pl) (dalesOf pl)
-    filled-parts = rw made (ends-are (descent fits up) (fit fits) ∙ names-are up)
+  -- the ends of their paths are the names of the dales, and of the hills
+  pub dales-named : listOf (pathEnd dales) (length dales) ≡ dalesOf pl
+  unfolding dalesOf daleAt
+  dales-named = rw dales-nexts (ends-are (down-falling pl (lent .valid .sides)) (plot-fits (lent .valid .sides)))
+
+  pub hills-named : listOf (pathEnd hills) (length hills) ≡ hillsOf pl
+  unfolding hillsOf hillAt
+  hills-named = rw hills-nexts (ends-are (up-falling pl (lent .valid .sides)) (plot-fits (lent .valid .sides)))

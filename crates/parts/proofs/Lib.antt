@@ -1,4 +1,5 @@
--- Laws of lists of next posts: the paths that they make, and where these end; and of the call's outcome.
+-- Laws of lists of next posts: how they are filled, the paths that they make and where these end; and of the call's outcome.
+pub mod Filled
 pub mod Shorter
 pub mod Descents
 pub mod Outcome

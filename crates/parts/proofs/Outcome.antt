@@ -1,64 +1,72 @@
--- The call's outcome: which row of the table turns it away, and what stands afterwards.
+-- The call's outcome: which row of the table turns it away, what acceptance says, and what stands afterwards.
 use Prim.Native.Nat.{ℕ}
-use native.Mathlib.Omega.{arith}
 use mathlib.Core.Path.{_≡_, refl, sym, _∙_, ap}
 use mathlib.Core.Bool.{Bool, true, false, _||_}
 use mathlib.Core.List.{List, [], _∷_}
 use borrow.Author.Tests.{eqb-true, ne-eqb, not-false}
-use lib.IntN.{ℤ}
 use lib.ListN.{length}
-use Rattle.surface.specs.Plot.{Plot, isHeight}
+use Rattle.surface.specs.Plot.{Plot, posts, isHeight}
 use Rattle.surface.specs.Lines.{dalesOf, hillsOf}
-use Rattle.surface.specs.Refusals.{verdict, rowOf, isNot, row4, partsVerdict}
-use Rattle.surface.specs.Calls.{answer, partsDales, partsHills}
+use Rattle.surface.specs.Refusals.{Row, verdict, rowOf, isNot, row1, row2, row4, partsVerdict}
+use Rattle.surface.specs.Calls.{partsDales, partsHills}
 use Rattle.surface.specs.declared.Answer.{Answer}
-use Rattle.surface.proofs.Bools.{or-left, or-right}
-use Rattle.surface.proofs.Verdicts.{row-holds, row-passed}
-use Rattle.plot.specs.Limits.{Sized}
-use Rattle.plot.proofs.Sizes.{in-range}
-use Rattle.parts.specs.Accepts.{Accepts}
+use Rattle.surface.proofs.General.Bools.{or-left, or-right}
+use Rattle.surface.proofs.General.FirstNot.{ranged-all}
+use Rattle.surface.proofs.AnyOrder.Grid.{test-sides}
+use Rattle.surface.proofs.OfCalls.Verdicts.{passed, row-holds, row-passed, leads-refused, leads-passed}
+use Rattle.surface.proofs.OfCalls.Accepted.{plot-sized}
+use Rattle.parts.specs.Filled.{ForParts}
 
--- one of the lists is not as long as the heights
-abbrev pub unequal : List ℤ → List ℕ → List ℕ → Bool
-unequal hs dales hills = isNot dales (length hs) || isNot hills (length hs)
+pub code : {a b : Answer} → a ≡ b → a .code ≡ b .code
+code e = ap (λ (x : Answer). x .code) e
 
-module _ {pl : Plot} {code : ℕ} (s : Sized pl code) (dales hills : List ℕ) where
-  pub sized-refused : (code ≡ 0 → ⊥) → Accepts pl dales hills (record { code = code; place = 0 })
-  unfolding partsVerdict
-  sized-refused h = record { verdict = sym (ap answer (s .refuses h _)); lent = λ e. absurd (h e) }
-
-  module _ (e : code ≡ 0) where
-    -- rows 1 and 2 do not hold
-    passed : partsVerdict pl dales hills ≡ verdict (rowOf 3 (unequal pl.heights dales hills) ∷ row4 isHeight pl.heights ∷ [])
-    unfolding partsVerdict
-    passed = s .passes e _ ∙ ap (λ (n : ℕ). verdict (rowOf 3 (isNot dales n || isNot hills n) ∷ row4 isHeight pl.heights ∷ [])) (sym (s .fits e .size))
-
-    pub lists-refused : unequal pl.heights dales hills ≡ true → Accepts pl dales hills (record { code = 3; place = 0 })
-    lists-refused h = record { verdict = sym (ap answer (passed ∙ row-holds _ _ h)); lent = λ k. absurd (omega arith) }
-
-    pub lists-passed : unequal pl.heights dales hills ≡ false → (r : Answer) → r ≡ answer (verdict (row4 isHeight pl.heights ∷ [])) → Accepts pl dales hills r
-    lists-passed h r v =
-        record {
-          verdict = v ∙ sym (ap answer (passed ∙ row-passed _ _ h));
-          lent =
-              λ z.
-              record {
-                levelled = record { fits = s .fits e; inRange = in-range pl.heights (sym (ap (λ (a : Answer). a .code) v) ∙ z) };
-                dalesSize = eqb-true _ _ (not-false _ (or-left (isNot dales (length pl.heights)) _ h)) ∙ s .fits e .size;
-                hillsSize = eqb-true _ _ (not-false _ (or-right (isNot dales (length pl.heights)) _ h)) ∙ s .fits e .size;
-              };
-        }
-
--- a refused call leaves the lists, and an accepted one fills them
 module _ (pl : Plot) (dales hills : List ℕ) where
-  abbrev code-of : ℕ
-  code-of = partsVerdict pl dales hills .code
+  -- rows 1 and 2
+  abbrev sized : List Row
+  sized = row1 pl.rows pl.columns ∷ row2 pl ∷ []
 
-  pub parts-kept : (code-of ≡ 0 → ⊥) → (dales ≡ partsDales pl dales hills) × (hills ≡ partsHills pl dales hills)
+  pub size-refused : (verdict sized .code ≡ 0 → ⊥) → partsVerdict pl dales hills ≡ verdict sized
+  unfolding partsVerdict
+  size-refused h = leads-refused sized _ tt h
+
+  -- where they pass: row 3, by the number of heights
+  module _ (z : verdict sized .code ≡ 0) where
+    abbrev unequal : Bool
+    unequal = isNot dales (length pl.heights) || isNot hills (length pl.heights)
+
+    size-passed : partsVerdict pl dales hills ≡ verdict (rowOf 3 unequal ∷ row4 isHeight pl.heights ∷ [])
+    unfolding partsVerdict
+    size-passed =
+        leads-passed sized _ tt z
+        ∙ ap (λ (n : ℕ). verdict (rowOf 3 (isNot dales n || isNot hills n) ∷ row4 isHeight pl.heights ∷ [])) (sym (plot-sized pl z .1))
+
+    pub lists-refused : unequal ≡ true → partsVerdict pl dales hills ≡ record { code = 3; place = 0 }
+    lists-refused h = size-passed ∙ row-holds _ _ h
+
+    pub lists-passed : unequal ≡ false → partsVerdict pl dales hills ≡ verdict (row4 isHeight pl.heights ∷ [])
+    lists-passed h = size-passed ∙ row-passed _ _ h
+
+  -- the call is accepted of a plot and two lists of its size
+  pub parts-valid : partsVerdict pl dales hills .code ≡ 0 → ForParts pl dales hills
+  unfolding partsVerdict
+  parts-valid e =
+      let row = passed _ tt e in
+      record {
+        valid =
+            record {
+              sides = test-sides _ _ (not-false _ (row 1));
+              size = eqb-true _ _ (not-false _ (row 2));
+              inRange = ranged-all isHeight pl.heights (row 4);
+            };
+        dalesSize = eqb-true _ _ (not-false _ (or-left (isNot dales (posts pl)) _ (row 3)));
+        hillsSize = eqb-true _ _ (not-false _ (or-right (isNot dales (posts pl)) _ (row 3)));
+      }
+
+  -- a refused call leaves the lists, and an accepted one fills them
+  pub parts-kept : (partsVerdict pl dales hills .code ≡ 0 → ⊥) → (dales ≡ partsDales pl dales hills) × (hills ≡ partsHills pl dales hills)
   unfolding partsDales partsHills
-  parts-kept n = rw (ne-eqb code-of 0 n) (refl, refl)
+  parts-kept n = rw (ne-eqb (partsVerdict pl dales hills .code) 0 n) (refl, refl)
 
-  pub parts-filled : code-of ≡ 0
-      → (dalesOf pl ≡ partsDales pl dales hills) × (hillsOf pl ≡ partsHills pl dales hills)
+  pub parts-filled : partsVerdict pl dales hills .code ≡ 0 → (dalesOf pl ≡ partsDales pl dales hills) × (hillsOf pl ≡ partsHills pl dales hills)
   unfolding partsDales partsHills
   parts-filled e = rw e (refl, refl)

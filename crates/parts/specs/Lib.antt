@@ -1,3 +1,3 @@
--- What the functions below the call promise each other: what is refused, and the paths that a list of them makes.
-pub mod Accepts
+-- What the functions below the call promise each other: lists filled with next posts, and the paths that such a list makes.
+pub mod Filled
 pub mod Paths

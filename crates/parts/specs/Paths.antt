@@ -9,19 +9,19 @@ abbrev pub follow : List ℕ → ℕ → ℕ
 follow l p = getD l p p
 
 -- where k steps lead
-unfoldable pub after : List ℕ → ℕ → ℕ → ℕ
-after l zero p = p
-after l (suc k) p = after l k (follow l p)
+unfoldable pub along : List ℕ → ℕ → ℕ → ℕ
+along l zero p = p
+along l (suc k) p = along l k (follow l p)
 
 -- the end of a path: as many steps as the list is long lead there
-abbrev pub endIn : List ℕ → ℕ → ℕ
-endIn l = after l (length l)
+abbrev pub pathEnd : List ℕ → ℕ → ℕ
+pathEnd l = along l (length l)
 
 -- every path comes to an end, at which it stays
 pub record Ends (l : List ℕ) : Type 0 where
-  pub stays : (p : ℕ) → follow l (endIn l p) ≡ endIn l p
+  pub stays : (p : ℕ) → follow l (pathEnd l p) ≡ pathEnd l p
 
 -- the second list has shorter paths, however they were shortened: each entry is one further along the first list's path, or the same
 pub record Shorter (l l′ : List ℕ) : Type 0 where
   pub size : length l′ ≡ length l
-  pub along : (p : ℕ) → (k : ℕ) × (follow l′ p ≡ after l (suc k) p)
+  pub further : (p : ℕ) → (k : ℕ) × (follow l′ p ≡ along l (suc k) p)

@@ -1,109 +1,85 @@
-// Next down and next up of every post of a plot, a row at a time.
-use plot::next::next_at;
-use plot::next::next_inside;
+// Next down and next up of every post of a plot, in two lists that are filled together.
+use next::step::next_at;
+use next::step::next_inside;
+use surface::DOWN;
+use surface::Grid;
+use surface::UP;
 ghost use mathlib.Core.Path.{_≡_};
-ghost use mathlib.Core.Bool.{true, false};
-ghost use Prim.Native.Nat.{_+_, _-_, _*_, _≤_, _<_};
-ghost use lib.ListN.{length};
-ghost use Rattle.surface.specs.Plot.{plot};
-ghost use Rattle.surface.specs.Lists.{listOf};
-ghost use Rattle.plot.specs.Fits.{Levelled};
-ghost use Rattle.plot.specs.Stores.{stores};
-ghost use Rattle.plot.specs.Rows.{Between};
-ghost use Rattle.plot.specs.Scan.{nextBy};
+ghost use mathlib.Core.Bool.{false};
+ghost use Prim.Native.Nat.{ℕ, _+_, _*_, _≤_, _<_};
+ghost use Rattle.surface.specs.Plot.{plotOf, posts};
+ghost use Rattle.surface.specs.Edges.{isBorder};
+ghost use Rattle.parts.specs.Filled.{ForParts, BothFilled, AllFilled};
 
-// Of n posts from post `from` on, downward, or upward where `up`.
-fn next_each(
+// Of n posts from post `from` on.
+fn fill_anywhere(
     heights: &[i32],
-    rows: usize,
-    columns: usize,
+    grid: Grid,
     from: usize,
     n: usize,
-    up: bool,
-    list: &mut [u16],
+    dales: &mut [u16],
+    hills: &mut [u16],
 )
-    requires { ⌜ Levelled (plot rows columns (now heights)) × (length (now list) ≡ rows * columns) × (from + n ≤ rows * columns) ⌝ }
-    ensures { λ _. ⌜ now (list .exit) ≡ stores (nextBy up (plot rows columns (now (heights .entry)))) from n (now (list .entry)) ⌝ }
+    requires { ⌜ ForParts (plotOf grid (now heights)) (now dales) (now hills) × (from + n ≤ posts (plotOf grid (now heights))) ⌝ }
+    ensures { λ _. ⌜ BothFilled (plotOf grid (now (heights .entry))) from n (now (dales .entry)) (now (hills .entry)) (now (dales .exit)) (now (hills .exit)) ⌝ }
 {
     let mut i = 0;
     while i < n {
-        list[from + i] = next_at(heights, rows, columns, from + i, up) as u16;
+        let p = from + i;
+        dales[p] = next_at(heights, grid, p, DOWN) as u16;
+        hills[p] = next_at(heights, grid, p, UP) as u16;
         i += 1;
     }
 }
 
-// Of the posts of a row that is neither the top nor the bottom one, without its two ends, downward and upward.
-fn next_inner(
+// Of n posts from post `from` on, of which none is on a border: nothing to choose, which is quicker.
+fn fill_inside(
     heights: &[i32],
-    rows: usize,
-    columns: usize,
-    base: usize,
-    down: &mut [u16],
-    up: &mut [u16],
+    grid: Grid,
+    from: usize,
+    n: usize,
+    dales: &mut [u16],
+    hills: &mut [u16],
 )
-    requires { ⌜ Levelled (plot rows columns (now heights)) × Between rows columns base × (length (now down) ≡ rows * columns) × (length (now up) ≡ rows * columns) ⌝ }
-    ensures { λ _. ⌜ now (down .exit) ≡ stores (nextBy false (plot rows columns (now (heights .entry)))) (base + 1) (columns - 2) (now (down .entry)) ⌝ }
-    ensures { λ _. ⌜ now (up .exit) ≡ stores (nextBy true (plot rows columns (now (heights .entry)))) (base + 1) (columns - 2) (now (up .entry)) ⌝ }
+    requires { ⌜ ForParts (plotOf grid (now heights)) (now dales) (now hills) × (from + n ≤ posts (plotOf grid (now heights))) ⌝ }
+    requires { ⌜ ((i : ℕ) → i < n → isBorder (grid .rows) (grid .columns) (from + i) ≡ false) ⌝ }
+    ensures { λ _. ⌜ BothFilled (plotOf grid (now (heights .entry))) from n (now (dales .entry)) (now (hills .entry)) (now (dales .exit)) (now (hills .exit)) ⌝ }
 {
-    let mut c = 1;
-    while c + 1 < columns {
-        let p = base + c;
-        down[p] = next_inside(heights, rows, columns, p, false) as u16;
-        up[p] = next_inside(heights, rows, columns, p, true) as u16;
-        c += 1;
+    let mut i = 0;
+    while i < n {
+        let p = from + i;
+        dales[p] = next_inside(heights, grid, p, DOWN) as u16;
+        hills[p] = next_inside(heights, grid, p, UP) as u16;
+        i += 1;
     }
 }
 
-// Of a row that is neither the top nor the bottom one, downward and upward.
-fn next_row(
-    heights: &[i32],
-    rows: usize,
-    columns: usize,
-    base: usize,
-    down: &mut [u16],
-    up: &mut [u16],
-)
-    requires { ⌜ Levelled (plot rows columns (now heights)) × Between rows columns base × (length (now down) ≡ rows * columns) × (length (now up) ≡ rows * columns) ⌝ }
-    ensures { λ _. ⌜ now (down .exit) ≡ stores (nextBy false (plot rows columns (now (heights .entry)))) base columns (now (down .entry)) ⌝ }
-    ensures { λ _. ⌜ now (up .exit) ≡ stores (nextBy true (plot rows columns (now (heights .entry)))) base columns (now (up .entry)) ⌝ }
+// Of row r. The top and the bottom row are on a border; of a row between, its two ends are.
+fn fill_row(heights: &[i32], grid: Grid, r: usize, dales: &mut [u16], hills: &mut [u16])
+    requires { ⌜ ForParts (plotOf grid (now heights)) (now dales) (now hills) × (r < grid .rows) ⌝ }
+    ensures { λ _. ⌜ BothFilled (plotOf grid (now (heights .entry))) (r * grid .columns) (grid .columns) (now (dales .entry)) (now (hills .entry)) (now (dales .exit)) (now (hills .exit)) ⌝ }
 {
-    let end = base + (columns - 1);
-    next_each(heights, rows, columns, base, 1, false, down);
-    next_each(heights, rows, columns, base, 1, true, up);
-    next_inner(heights, rows, columns, base, down, up);
-    next_each(heights, rows, columns, end, 1, false, down);
-    next_each(heights, rows, columns, end, 1, true, up);
+    let columns = grid.columns;
+    let first = r * columns;
+    if (r == 0) | (r + 1 == grid.rows) {
+        fill_anywhere(heights, grid, first, columns, dales, hills);
+        return;
+    }
+    let inner = columns - 2;
+    fill_anywhere(heights, grid, first, 1, dales, hills);
+    fill_inside(heights, grid, first + 1, inner, dales, hills);
+    fill_anywhere(heights, grid, first + 1 + inner, 1, dales, hills);
 }
 
-// Of every row between the top and the bottom one, downward and upward.
-fn next_rows(heights: &[i32], rows: usize, columns: usize, down: &mut [u16], up: &mut [u16])
-    requires { ⌜ Levelled (plot rows columns (now heights)) × (length (now down) ≡ rows * columns) × (length (now up) ≡ rows * columns) ⌝ }
-    ensures { λ _. ⌜ now (down .exit) ≡ stores (nextBy false (plot rows columns (now (heights .entry)))) columns (rows * columns - columns - columns) (now (down .entry)) ⌝ }
-    ensures { λ _. ⌜ now (up .exit) ≡ stores (nextBy true (plot rows columns (now (heights .entry)))) columns (rows * columns - columns - columns) (now (up .entry)) ⌝ }
+// Of every post.
+pub(crate) fn fill_nexts(heights: &[i32], grid: Grid, dales: &mut [u16], hills: &mut [u16])
+    requires { ⌜ ForParts (plotOf grid (now heights)) (now dales) (now hills) ⌝ }
+    ensures { λ _. ⌜ AllFilled (plotOf grid (now (heights .entry))) (now (dales .entry)) (now (hills .entry)) (now (dales .exit)) (now (hills .exit)) ⌝ }
 {
-    let mut r = 1;
-    while r + 1 < rows {
-        next_row(heights, rows, columns, r * columns, down, up);
+    let rows = grid.rows;
+    let mut r = 0;
+    while r < rows {
+        fill_row(heights, grid, r, dales, hills);
         r += 1;
     }
-}
-
-// Of every post of a plot, downward and upward.
-pub(crate) fn fill_nexts(
-    heights: &[i32],
-    rows: usize,
-    columns: usize,
-    down: &mut [u16],
-    up: &mut [u16],
-)
-    requires { ⌜ Levelled (plot rows columns (now heights)) × (length (now down) ≡ rows * columns) × (length (now up) ≡ rows * columns) ⌝ }
-    ensures { λ _. ⌜ now (down .exit) ≡ listOf (nextBy false (plot rows columns (now (heights .entry)))) (rows * columns) ⌝ }
-    ensures { λ _. ⌜ now (up .exit) ≡ listOf (nextBy true (plot rows columns (now (heights .entry)))) (rows * columns) ⌝ }
-{
-    let bottom = rows * columns - columns;
-    next_each(heights, rows, columns, 0, columns, false, down);
-    next_each(heights, rows, columns, 0, columns, true, up);
-    next_rows(heights, rows, columns, down, up);
-    next_each(heights, rows, columns, bottom, columns, false, down);
-    next_each(heights, rows, columns, bottom, columns, true, up);
 }

@@ -1,27 +1,41 @@
--- `parts::verdict` meets its contract, return by return.
+-- Rows 1 and 2 lead, then row 3, then row 4.
+use mathlib.Core.Path.{_≡_, sym, _∙_}
+use mathlib.Core.List.{[], _∷_}
 use native.Mathlib.Omega.{arith}
-use Rattle.plot.proofs.Round.{few}
-use Rattle.parts.proofs.Outcome.{sized-refused, lists-refused, lists-passed}
+use Rattle.surface.specs.Plot.{Plot, plot}
+use Rattle.surface.specs.Refusals.{verdict, row1, row2}
+use Rattle.surface.proofs.OfCalls.Accepted.{plot-sized}
+use Rattle.parts.proofs.Outcome.{code, size-refused, lists-refused, lists-passed}
 use borrow.Author.Needs.{needs}
 use Rattle.parts.proofs.verdict.Statement.{statement}
 use Rattle.parts.proofs.verdict.Tie as tie
 
-sized-requires : tie.Need-sized-requires
-sized-requires c κs = search needs
+abbrev start : tie.Else1 → tie.Start
+start c = c .before .before .before .before .before
+
+abbrev asked : tie.Else1 → Plot
+asked c = let a = start c .args in plot (a .rows) (a .columns) (a .heights .now)
+
+-- rows 1 and 2 pass
+sized : (c : tie.Else1) → verdict (row1 (asked c .rows) (asked c .columns) ∷ row2 (asked c) ∷ []) .code ≡ 0
+sized c = sym (code (c .before .before .plot-verdict .ensures)) ∙ c .if1 .left
+
+plot-verdict-requires : tie.Need-plot-verdict-requires
+plot-verdict-requires c κs = search needs
 
 returns : tie.Need-returns
-returns c = sized-refused (c .before .sized .ensures) _ _ (c .if1 .taken)
+returns c =
+    let e = c .before .before .plot-verdict .ensures in
+    e ∙ sym (size-refused _ _ _ (λ z. c .if1 .taken (code e ∙ z)))
 
 returns-2 : tie.Need-returns-2
-returns-2 c = lists-refused (c .before .before .sized .ensures) _ _ (c .before .if1 .left) (c .if2 .taken)
+returns-2 c = sym (lists-refused (asked (c .before)) _ _ (sized (c .before)) (c .if2 .taken))
 
-ranged-requires : tie.Need-ranged-requires
-ranged-requires c κs =
-    let f = c .before .before .sized .ensures .fits (c .before .if1 .left) in
-    omega (arith, f .size, few f)
+heights-verdict-requires : tie.Need-heights-verdict-requires
+heights-verdict-requires c κs = let k = plot-sized (asked (c .before)) (sized (c .before)) in omega (arith, k .0, k .1)
 
 returns-3 : tie.Need-returns-3
-returns-3 c = lists-passed (c .before .before .before .sized .ensures) _ _ (c .before .before .if1 .left) (c .before .if2 .left) _ (c .ranged .ensures)
+returns-3 c = c .heights-verdict .ensures ∙ sym (lists-passed (asked (c .before .before)) _ _ (sized (c .before .before)) (c .before .if2 .left))
 
 pub verdict-spec : {M : Type 1} → statement M
-verdict-spec = tie.close (tie.spec sized-requires returns returns-2 ranged-requires returns-3)
+verdict-spec = tie.close (tie.spec plot-verdict-requires returns returns-2 heights-verdict-requires returns-3)

@@ -1,4 +1,4 @@
--- `parts::paths::ahead` meets its contract.
+-- The law of two steps.
 use native.Mathlib.Omega.{arith}
 use mathlib.Core.Path.{refl}
 use borrow.Author.Needs.{needs}

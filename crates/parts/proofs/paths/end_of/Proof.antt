@@ -1,18 +1,18 @@
--- `parts::paths::end_of` meets its contract. The loop's invariant: the path from e ends where that from p does. The measure: the steps left.
+-- The loop's invariant: the path from e ends where that from p does. The measure: the steps left.
 use Prim.Native.Nat.{_<_}
 use native.Mathlib.Omega.{arith}
 use mathlib.Core.Path.{_≡_, sym, _∙_}
 use lib.ListN.{length}
-use Rattle.parts.specs.Paths.{endIn}
-use Rattle.parts.proofs.Shorter.{stepsIn, outside, after-stays, entry, shorter-none, read-end, read-nearer}
+use Rattle.parts.specs.Paths.{pathEnd}
+use Rattle.parts.proofs.Shorter.{stepsLeft, outside, along-stays, entry, shorter-none, read-end, read-nearer}
 use Rattle.parts.proofs.paths.end_of.Statement.{statement}
 use Rattle.parts.proofs.paths.end_of.Tie as tie
 
 abbrev Inv-loop : tie.InvT-loop
-Inv-loop list p e₀ e = (e < 65536) × (endIn list e ≡ endIn list p)
+Inv-loop list p e₀ e = (e < 65536) × (pathEnd list e ≡ pathEnd list p)
 
 abbrev μ-loop : tie.MeasureT-loop
-μ-loop list p e₀ e = stepsIn list e
+μ-loop list p e₀ e = stepsLeft list e
 
 mul-e : tie.Need-mul-e Inv-loop μ-loop
 mul-e c = omega arith
@@ -38,7 +38,8 @@ loop-less : tie.Need-loop-less Inv-loop μ-loop
 loop-less c =
     let l = c .before .before .before in
     let s = l .before .before in
-    read-nearer (shorter-none _) (l .loop .e) (s .pre .0) (record { inside = c .before .before .if1 .left; moves = λ k. c .if2 .left (entry (s .args .list .now) _ 0 _ (c .before .before .if1 .left) ∙ k) })
+    read-nearer (shorter-none _) (l .loop .e) (s .pre .0) (c .before .before .if1 .left)
+    (λ k. c .if2 .left (entry (s .args .list .now) _ 0 _ (c .before .before .if1 .left) ∙ k))
 
 loop-again : tie.Need-loop-again Inv-loop μ-loop
 loop-again c =
@@ -49,27 +50,13 @@ returns : tie.Need-returns Inv-loop μ-loop
 returns c =
     let l = c .before in
     let list = l .before .before .args .list .now in
-    sym (after-stays list (length list) (l .loop .e) (outside list (l .loop .e) (c .if1 .taken))) ∙ l .loop .inv .1
+    sym (along-stays list (length list) (l .loop .e) (outside list (l .loop .e) (c .if1 .taken))) ∙ l .loop .inv .1
 
 returns-2 : tie.Need-returns-2 Inv-loop μ-loop
 returns-2 c =
     let l = c .before .before .before in
     let list = l .before .before .args .list .now in
-    sym (after-stays list (length list) (l .loop .e) (entry list _ _ 0 (c .before .before .if1 .left) ∙ c .if2 .taken)) ∙ l .loop .inv .1
+    sym (along-stays list (length list) (l .loop .e) (entry list _ _ 0 (c .before .before .if1 .left) ∙ c .if2 .taken)) ∙ l .loop .inv .1
 
 pub end-of-spec : {M : Type 1} → statement M
-end-of-spec =
-    tie.close
-    (tie.spec
-    Inv-loop
-    μ-loop
-    mul-e
-    shared-slice-read-e
-    loop-holds
-    cast-i
-    mul-next
-    shared-slice-read-next
-    loop-less
-    loop-again
-    returns
-    returns-2)
+end-of-spec = tie.close (tie.spec Inv-loop μ-loop mul-e shared-slice-read-e loop-holds cast-i mul-next shared-slice-read-next loop-less loop-again returns returns-2)

@@ -1,10 +1,10 @@
--- `parts::paths::settle` meets its contract.
+-- Two steps and a third that does not move, or the whole path.
 use mathlib.Core.Path.{_≡_, refl, sym, _∙_, ap}
 use mathlib.Core.Logic.{inl}
 use borrow.Author.Needs.{needs}
 use lib.ListN.{getD}
-use Rattle.parts.specs.Paths.{follow, after, endIn}
-use Rattle.parts.proofs.Shorter.{entry, end-after, shorter-none, store-end, stored}
+use Rattle.parts.specs.Paths.{follow, along, pathEnd}
+use Rattle.parts.proofs.Shorter.{entry, end-along, shorter-none, store-end, stored}
 use Rattle.parts.proofs.paths.settle.Statement.{statement}
 use Rattle.parts.proofs.paths.settle.Tie as tie
 
@@ -39,8 +39,8 @@ same-length c = search needs
 ended : (c : tie.Then1)
     → let q = c .before .before .before .before .before in
     let a = q .before .before .before .args in
-    endIn (a .list .now) (a .p) ≡ getD (a .list .now) (q .ahead .result) 0
-unfolding after
+    pathEnd (a .list .now) (a .p) ≡ getD (a .list .now) (q .ahead .result) 0
+unfolding along
 ended c =
     let r = c .before .before .before in
     let q = r .before .before in
@@ -48,10 +48,10 @@ ended c =
     let list = s .args .list .now in
     let first = q .ahead .ensures in
     let second = r .ahead2 .ensures in
-    let two : getD list (q .ahead .result) 0 ≡ after list 2 (s .args .p) = entry list _ 0 _ (first .0) ∙ first .1 in
-    let third : getD list (r .ahead2 .result) 0 ≡ follow list (after list 2 (s .args .p)) =
+    let two : getD list (q .ahead .result) 0 ≡ along list 2 (s .args .p) = entry list _ 0 _ (first .0) ∙ first .1 in
+    let third : getD list (r .ahead2 .result) 0 ≡ follow list (along list 2 (s .args .p)) =
     entry list _ 0 _ (second .0) ∙ second .1 ∙ ap (follow list) (first .1) in
-    end-after (s .pre .0) 2 (s .args .p) (sym third ∙ c .if1 .taken ∙ two) ∙ sym two
+    end-along (s .pre .0) 2 (s .args .p) (sym third ∙ c .if1 .taken ∙ two) ∙ sym two
 
 returns : tie.Need-returns
 returns c =
@@ -73,20 +73,4 @@ returns-2 : tie.Need-returns-2
 returns-2 c = search needs
 
 pub settle-spec : {M : Type 1} → statement M
-settle-spec =
-    tie.close
-    (tie.spec
-    ahead-requires
-    ahead-requires-2
-    mul-e
-    slice-read-e
-    mul-if1
-    slice-read-if1
-    mul-list
-    slice-write-list
-    same-length
-    returns
-    end-of-requires
-    shorten-path-requires
-    same-length-2
-    returns-2)
+settle-spec = tie.close (tie.spec ahead-requires ahead-requires-2 mul-e slice-read-e mul-if1 slice-read-if1 mul-list slice-write-list same-length returns end-of-requires shorten-path-requires same-length-2 returns-2)
