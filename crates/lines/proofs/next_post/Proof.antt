@@ -23,9 +23,6 @@ passed c = sym (ap (λ (a : Answer). a .code) (c .before .before .post-verdict .
 post : (c : tie.Else1) → PostOf (asked c) (c .before .before .before .args .post)
 post c = post-valid (asked c) _ (passed c)
 
-post-verdict-requires : tie.Need-post-verdict-requires
-post-verdict-requires c κs = search needs
-
 returns : tie.Need-returns
 unfolding nextVerdict
 returns c = rw (← (c .before .before .post-verdict .ensures), ne-eqb _ 0 (c .if1 .taken))
@@ -46,4 +43,4 @@ unfolding nextVerdict
 returns-2 c = rw (all-passed (asked (c .before)) _ (passed (c .before)), c .next-at .ensures)
 
 pub next-post-spec : {M : Type 1} → statement M
-next-post-spec = tie.close (tie.spec post-verdict-requires returns next-at-requires cast-t11 returns-2)
+next-post-spec = tie.close (tie.spec (search needs) returns next-at-requires cast-t11 returns-2)

@@ -4,12 +4,9 @@ use borrow.Author.Needs.{needs}
 use Rattle.lines.proofs.next_up.Statement.{statement}
 use Rattle.lines.proofs.next_up.Tie as tie
 
-next-post-requires : tie.Need-next-post-requires
-next-post-requires c κs = search needs
-
 returns : tie.Need-returns
 unfolding nextUpAnswer
 returns c = c .next-post .ensures
 
 pub next-up-spec : {M : Type 1} → statement M
-next-up-spec = tie.close (tie.spec next-post-requires returns)
+next-up-spec = tie.close (tie.spec (search needs) returns)

@@ -4,15 +4,9 @@ use borrow.Author.Needs.{needs}
 use Rattle.lines.proofs.thalweg.Statement.{statement}
 use Rattle.lines.proofs.thalweg.Tie as tie
 
-draw-line-requires : tie.Need-draw-line-requires
-draw-line-requires c κs = search needs
-
-same-length : tie.Need-same-length
-same-length c = search needs
-
 returns : tie.Need-returns
 unfolding thalwegAnswer thalwegList
 returns c = c .before .before .draw-line .ensures
 
 pub thalweg-spec : {M : Type 1} → statement M
-thalweg-spec = tie.close (tie.spec draw-line-requires same-length returns)
+thalweg-spec = tie.close (tie.spec (search needs) (search needs) returns)

@@ -67,12 +67,6 @@ stands c = let p = post (accepted c) in record { valid = p .valid; vertex = star
 room : (c : tie.Else4) → let e = c .before .before in length (path (asked (accepted e)) (walking e)) < length (start (accepted e) .args .line .now)
 room c = ltb-true _ _ (sym (c .before .has-room .ensures) ∙ not-false _ (c .if4 .left))
 
-post-verdict-requires : tie.Need-post-verdict-requires
-post-verdict-requires c κs = search needs
-
-refused-requires : tie.Need-refused-requires
-refused-requires c κs = search needs
-
 returns : tie.Need-returns
 returns c =
     let at-start = c .before .before .before .before .before in
@@ -82,9 +76,6 @@ returns c =
 
 mark-at-requires : tie.Need-mark-at-requires
 mark-at-requires c κs = post c
-
-refused-requires-2 : tie.Need-refused-requires-2
-refused-requires-2 c κs = search needs
 
 returns-2 : tie.Need-returns-2
 returns-2 c =
@@ -96,9 +87,6 @@ ring-at-requires c κs = post (c .before .before)
 
 line-start-requires : tie.Need-line-start-requires
 line-start-requires c κs = record { post = post (c .before .before .before); saddle = saddle (c .before); holds = c .ring-at .ensures }
-
-refused-requires-3 : tie.Need-refused-requires-3
-refused-requires-3 c κs = search needs
 
 returns-3 : tie.Need-returns-3
 returns-3 c =
@@ -112,9 +100,6 @@ has-room-requires : tie.Need-has-room-requires
 has-room-requires c κs =
     let at-else1 = c .before .before .before .before .before .before in
     (stands c, start-short (law c) (post at-else1 .post) (has c) (goes c))
-
-refused-requires-4 : tie.Need-refused-requires-4
-refused-requires-4 c κs = search needs
 
 returns-4 : tie.Need-returns-4
 returns-4 c =
@@ -135,9 +120,6 @@ cast-t22 c =
     let at-else3 = c .before .before .before .before .before .before in
     omega (arith, c .before .before .write-entries .ensures .0, path-low (stands at-else3))
 
-same-length : tie.Need-same-length
-same-length c = search needs
-
 returns-5 : tie.Need-returns-5
 returns-5 c =
     let at-else4 = c .before .before .before .before in
@@ -150,5 +132,5 @@ returns-5 c =
 pub draw-line-spec : {M : Type 1} → statement M
 draw-line-spec =
     tie.close
-    (tie.spec post-verdict-requires refused-requires returns mark-at-requires refused-requires-2 returns-2 ring-at-requires line-start-requires
-    refused-requires-3 returns-3 has-room-requires refused-requires-4 returns-4 write-entries-requires cast-t22 same-length returns-5)
+    (tie.spec (search needs) (search needs) returns mark-at-requires (search needs) returns-2 ring-at-requires line-start-requires
+    (search needs) returns-3 has-room-requires (search needs) returns-4 write-entries-requires cast-t22 (search needs) returns-5)

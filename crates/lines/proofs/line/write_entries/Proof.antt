@@ -59,9 +59,6 @@ next-requires c κs = c .loop .inv .0 .stands
 cast-line-2 : tie.Need-cast-line-2 Inv-loop μ-loop
 cast-line-2 c = omega (arith, fits (c .before .before .before))
 
-mul-line : tie.Need-mul-line Inv-loop μ-loop
-mul-line c = omega arith
-
 slice-write-line-2 : tie.Need-slice-write-line-2 Inv-loop μ-loop
 slice-write-line-2 c = omega (arith, room (c .before .before .before))
 
@@ -78,9 +75,6 @@ loop-again c =
 
 cast-line-3 : tie.Need-cast-line-3 Inv-loop μ-loop
 cast-line-3 c = omega (arith, fits (c .before .before .before))
-
-mul-line-2 : tie.Need-mul-line-2 Inv-loop μ-loop
-mul-line-2 c = omega arith
 
 slice-write-line-3 : tie.Need-slice-write-line-3 Inv-loop μ-loop
 slice-write-line-3 c = omega (arith, room (c .before .before .before))
@@ -102,5 +96,5 @@ returns c =
 pub write-entries-spec : {M : Type 1} → statement M
 write-entries-spec =
     tie.close
-    (tie.spec Inv-loop μ-loop cast-line slice-write-line loop-holds next-requires cast-line-2 mul-line slice-write-line-2 add-i loop-less
-    loop-again cast-line-3 mul-line-2 slice-write-line-3 add-result same-length returns)
+    (tie.spec Inv-loop μ-loop cast-line slice-write-line loop-holds next-requires cast-line-2 (λ c. omega arith) slice-write-line-2 add-i
+    loop-less loop-again cast-line-3 (λ c. omega arith) slice-write-line-3 add-result same-length returns)

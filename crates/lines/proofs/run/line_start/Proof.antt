@@ -1,12 +1,11 @@
 -- The place of the run's first member tells whether there is such a run.
 use native.Mathlib.Omega.{arith}
 use Rattle.lines.proofs.Ringed.{long, starts-none, starts-run}
-use borrow.Author.Needs.{needs}
 use Rattle.lines.proofs.run.line_start.Statement.{statement}
 use Rattle.lines.proofs.run.line_start.Tie as tie
 
 run-at-requires : tie.Need-run-at-requires
-run-at-requires c κs = search needs
+run-at-requires c κs = c .pre
 
 returns : tie.Need-returns
 returns c =

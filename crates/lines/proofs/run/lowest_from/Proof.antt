@@ -92,9 +92,6 @@ add-j-2 c =
     let at-start = c .before .before .before .before .before .before .before .before in
     omega (arith, at-start .pre .saddle .holds .low)
 
-loop-less : tie.Need-loop-less Inv-loop μ-loop
-loop-less c = omega arith
-
 loop-again : tie.Need-loop-again Inv-loop μ-loop
 loop-again c =
     let at-member-at2 = c .before .before .before in
@@ -122,4 +119,4 @@ pub lowest-from-spec : {M : Type 1} → statement M
 lowest-from-spec =
     tie.close
     (tie.spec Inv-loop μ-loop add-twice member-at-requires add-j loop-holds member-at-requires-2 is-lower-requires returns lower-of-requires
-    add-j-2 loop-less loop-again returns-2)
+    add-j-2 (λ c. omega arith) loop-again returns-2)

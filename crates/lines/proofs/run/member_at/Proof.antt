@@ -9,24 +9,12 @@ use borrow.Author.Needs.{needs}
 use Rattle.lines.proofs.run.member_at.Statement.{statement}
 use Rattle.lines.proofs.run.member_at.Tie as tie
 
-mul-result : tie.Need-mul-result
-mul-result c = search needs
-
-array-read-result : tie.Need-array-read-result
-array-read-result c = search needs
-
 returns : tie.Need-returns
 returns c =
     let s = c .before .before in
     let r = s .args .ring in
     let n = length-take-le (r .len) (r .members) (omega (arith, s .pre)) in
     sym (getD-front (held r) (held r) (s .args .j) (omega arith) ∙ getD-take (r .len) (r .members) (s .args .j) 0 (c .if1 .taken))
-
-mul-result-2 : tie.Need-mul-result-2
-mul-result-2 c = search needs
-
-array-read-result-2 : tie.Need-array-read-result-2
-array-read-result-2 c = search needs
 
 returns-2 : tie.Need-returns-2
 returns-2 c =
@@ -38,4 +26,4 @@ returns-2 c =
     ∙ rw n (getD-take (r .len) (r .members) (s .args .j - r .len) 0 (omega (arith, s .pre .2, c .if1 .left))))
 
 pub member-at-spec : {M : Type 1} → statement M
-member-at-spec = tie.close (tie.spec mul-result array-read-result returns mul-result-2 array-read-result-2 returns-2)
+member-at-spec = tie.close (tie.spec (search needs) (search needs) returns (search needs) (search needs) returns-2)

@@ -82,9 +82,6 @@ returns c =
     let at-loop = c .before .before .before .before in
     seek-found _ (inside (c .before .before .before)) (at-loop .loop .inv .1) (rw (side (c .before)) at (c .if1 .taken))
 
-cast-left : tie.Need-cast-left Inv-loop μ-loop
-cast-left c = search needs
-
 sub-left : tie.Need-sub-left Inv-loop μ-loop
 sub-left c = rw (side (c .before)) (more c .1)
 
@@ -92,9 +89,6 @@ add-i : tie.Need-add-i Inv-loop μ-loop
 add-i c =
     let at-start = c .before .before .before .before .before .before .before in
     omega (arith, at-start .pre .holds .low)
-
-loop-less : tie.Need-loop-less Inv-loop μ-loop
-loop-less c = omega arith
 
 loop-again : tie.Need-loop-again Inv-loop μ-loop
 loop-again c = (omega arith, rw (side (c .before)) (more c .0))
@@ -108,4 +102,4 @@ pub run-at-spec : {M : Type 1} → statement M
 run-at-spec =
     tie.close
     (tie.spec Inv-loop μ-loop sub-member-at member-at-requires is-lower-requires loop-holds member-at-requires-2 is-lower-requires-2 returns
-    cast-left sub-left add-i loop-less loop-again returns-2)
+    (search needs) sub-left add-i (λ c. omega arith) loop-again returns-2)

@@ -15,18 +15,6 @@ sides c =
     let a = start .args in
     small-sides (a .file .now) (a .heights .now) (start .pre .0 .heightsSize) (read .read-survey .result) (read .read-survey .ensures .0) (c .if1 .left)
 
-read-survey-requires : tie.Need-read-survey-requires
-read-survey-requires c κs = search needs
-
-put-refused-requires : tie.Need-put-refused-requires
-put-refused-requires c κs = search needs
-
-same-length : tie.Need-same-length
-same-length c = search needs
-
-same-length-2 : tie.Need-same-length-2
-same-length-2 c = search needs
-
 returns : tie.Need-returns
 returns c =
     let at-then1 = c .before .before .before .before in
@@ -40,12 +28,6 @@ returns c =
     (at-start .pre .1)
     (c .before .before .put-refused .ensures)
 
-survey-requires : tie.Need-survey-requires
-survey-requires c κs = search needs
-
-dales-and-hills-requires : tie.Need-dales-and-hills-requires
-dales-and-hills-requires c κs = search needs
-
 cast-t30 : tie.Need-cast-t30
 cast-t30 c =
     let at-slice-known6 = c .before .before .before .before .before .before .before .before in
@@ -57,24 +39,6 @@ cast-t31 c =
     let at-slice-known6 = c .before .before .before .before .before .before .before .before in
     let at-else1 = at-slice-known6 .before .before .before .before .before in
     omega (arith, sides at-else1 .1)
-
-put-head-requires : tie.Need-put-head-requires
-put-head-requires c κs = search needs
-
-same-length-3 : tie.Need-same-length-3
-same-length-3 c = search needs
-
-same-length-4 : tie.Need-same-length-4
-same-length-4 c = search needs
-
-same-length-5 : tie.Need-same-length-5
-same-length-5 c = search needs
-
-same-length-6 : tie.Need-same-length-6
-same-length-6 c = search needs
-
-same-length-7 : tie.Need-same-length-7
-same-length-7 c = search needs
 
 returns-2 : tie.Need-returns-2
 returns-2 c =
@@ -101,5 +65,5 @@ returns-2 c =
 pub put-first-spec : {M : Type 1} → statement M
 put-first-spec =
     tie.close
-    (tie.spec read-survey-requires put-refused-requires same-length same-length-2 returns survey-requires dales-and-hills-requires cast-t30
-    cast-t31 put-head-requires same-length-3 same-length-4 same-length-5 same-length-6 same-length-7 returns-2)
+    (tie.spec (search needs) (search needs) (search needs) (search needs) returns (search needs) (search needs) cast-t30 cast-t31 (search needs)
+    (search needs) (search needs) (search needs) (search needs) (search needs) returns-2)

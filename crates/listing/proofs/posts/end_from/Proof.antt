@@ -14,9 +14,6 @@ inside : (c : tie.Else1) → let s = c .before in s .args .vertex < length (s .a
 unfolding virtualPit
 inside c = let s = c .before in ⊎-elim (λ h. h) (λ (e : s .args .vertex ≡ virtualPit). absurd (c .if1 .left e)) (s .pre)
 
-cast-result : tie.Need-cast-result
-cast-result c = search needs
-
 returns : tie.Need-returns
 unfolding virtualPit
 returns c = end-pit (c .before .args .ends .now) (c .before .args .vertex) (c .if1 .taken)
@@ -35,4 +32,4 @@ unfolding virtualPit
 returns-2 c = end-post (c .before .before .args .ends .now) (c .before .before .args .vertex) (c .before .if1 .left)
 
 pub end-from-spec : {M : Type 1} → statement M
-end-from-spec = tie.close (tie.spec cast-result returns mul-result shared-slice-read-result cast-result-2 returns-2)
+end-from-spec = tie.close (tie.spec (search needs) returns mul-result shared-slice-read-result cast-result-2 returns-2)

@@ -47,9 +47,6 @@ put-runs-requires-2 c κs =
     let w = c .before .before .before .put-runs in
     (upward (at-start .pre .0) (saddle at-ring-at), omega (arith, at-start .pre .2, w .kept, w .ensures .place, w .ensures .bound))
 
-same-length : tie.Need-same-length
-same-length c = search needs
-
 returns-2 : tie.Need-returns-2
 returns-2 c =
     let at-put-runs = c .before .before .before .before .before .before in
@@ -59,4 +56,4 @@ returns-2 c =
     both (plotOf (a .grid) (a .heights .now)) (a .p) (saddle at-ring-at .saddle) (at-put-runs .put-runs .ensures) (c .before .before .put-runs2 .ensures)
 
 pub put-post-spec : {M : Type 1} → statement M
-put-post-spec = tie.close (tie.spec mark-at-requires returns ring-at-requires put-runs-requires put-runs-requires-2 same-length returns-2)
+put-post-spec = tie.close (tie.spec mark-at-requires returns ring-at-requires put-runs-requires put-runs-requires-2 (search needs) returns-2)

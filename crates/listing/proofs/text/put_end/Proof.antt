@@ -5,26 +5,11 @@ use borrow.Author.Needs.{needs}
 use Rattle.listing.proofs.text.put_end.Statement.{statement}
 use Rattle.listing.proofs.text.put_end.Tie as tie
 
-put-byte-requires : tie.Need-put-byte-requires
-put-byte-requires c κs = search needs
-
-put-byte-requires-2 : tie.Need-put-byte-requires-2
-put-byte-requires-2 c κs = search needs
-
-same-length : tie.Need-same-length
-same-length c = search needs
-
 returns : tie.Need-returns
 returns c =
     let at-put-byte = c .before .before .before .before .before .before in
     let at-then1 = at-put-byte .before .before in
     rw (pit-named _ (at-then1 .if1 .taken)) (within (omega arith) (more (at-put-byte .put-byte .ensures) (c .before .before .put-byte2 .ensures)))
-
-put-field-requires : tie.Need-put-field-requires
-put-field-requires c κs = search needs
-
-same-length-2 : tie.Need-same-length-2
-same-length-2 c = search needs
 
 returns-2 : tie.Need-returns-2
 returns-2 c =
@@ -32,4 +17,4 @@ returns-2 c =
     rw (post-named _ (at-else1 .if1 .left)) (c .before .before .put-field .ensures)
 
 pub put-end-spec : {M : Type 1} → statement M
-put-end-spec = tie.close (tie.spec put-byte-requires put-byte-requires-2 same-length returns put-field-requires same-length-2 returns-2)
+put-end-spec = tie.close (tie.spec (search needs) (search needs) (search needs) returns (search needs) (search needs) returns-2)
