@@ -18,6 +18,9 @@ fn main() {
     }
     let bytes = input.bytes;
     if !print_file(&file[..bytes]) {
-        io::write_all(STDERR_FILENO, b"lister: standard output cannot be written\n");
+        io::write_all(
+            STDERR_FILENO,
+            b"lister: standard output cannot be written\n",
+        );
     }
 }
