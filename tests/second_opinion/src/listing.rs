@@ -40,11 +40,12 @@ pub fn listing(input: &[u8]) -> String {
     text
 }
 
-/// What a program prints for this input, and whether it ended well.
+/// What a program prints for this input, if it ended well and said nothing on standard error.
 pub fn printed(lister: &str, input: &[u8]) -> Result<String, String> {
     let mut child = Command::new(lister)
         .stdin(Stdio::piped())
         .stdout(Stdio::piped())
+        .stderr(Stdio::piped())
         .spawn()
         .map_err(|e| format!("{lister}: {e}"))?;
     let mut stdin = child.stdin.take().unwrap();
@@ -58,6 +59,10 @@ pub fn printed(lister: &str, input: &[u8]) -> Result<String, String> {
     let output = output.map_err(|e| format!("{lister}: {e}"))?;
     if !output.status.success() {
         return Err(format!("{lister} ended with {}", output.status));
+    }
+    if !output.stderr.is_empty() {
+        let said = String::from_utf8_lossy(&output.stderr);
+        return Err(format!("{lister} said: {said}"));
     }
     String::from_utf8(output.stdout).map_err(|e| e.to_string())
 }
