@@ -4,7 +4,7 @@ use mathlib.Core.List.{[], _∷_}
 use native.Mathlib.Omega.{arith}
 use borrow.Author.Needs.{needs}
 use Rattle.surface.specs.Plot.{Plot, plot, isHeight}
-use Rattle.surface.specs.Refusals.{accepted, verdict, row1, row2, row4}
+use Rattle.surface.specs.Refusals.{verdict, row1, row2, row4}
 use Rattle.surface.specs.declared.Answer.{Answer}
 use Rattle.surface.proofs.OfCalls.Verdicts.{leads-refused}
 use Rattle.surface.proofs.OfCalls.Accepted.{plot-sized}

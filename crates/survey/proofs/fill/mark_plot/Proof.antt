@@ -1,5 +1,5 @@
 -- The loop's invariant: the rows above row r are marked, and the flags just above it are told.
-use Prim.Native.Nat.{ℕ, _+_, _-_, _*_, _<_}
+use Prim.Native.Nat.{_+_, _-_, _*_, _<_}
 use native.Mathlib.Omega.{arith}
 use native.Mathlib.Nat.{add-mul, one-mul, zero-mul}
 use mathlib.Core.Path.{_≡_, refl, _∙_}

@@ -6,7 +6,7 @@ use mir.Syntax.{w32}
 use mir.Val.{toZ, ofZ}
 use borrow.Author.Needs.{needs}
 use borrow.Author.Tests.{lt-ltb, le-ltb, not-true, not-false}
-use Rattle.surface.specs.Plot.{Plot, plot, posts, isHeight, Valid}
+use Rattle.surface.specs.Plot.{Plot, plot, posts, isHeight}
 use Rattle.surface.specs.Refusals.{verdict, surveyVerdict, reshootVerdict, row5, row6}
 use Rattle.surface.specs.declared.Answer.{Answer}
 use Rattle.surface.proofs.OfCalls.Verdicts.{leads-refused, leads-passed, row-holds, row-passed, none-left}
