@@ -23,15 +23,6 @@ abbrev μ-loop : tie.MeasureT-loop
 loop-holds : tie.Need-loop-holds Inv-loop μ-loop
 loop-holds c = refl
 
-mul-is-height : tie.Need-mul-is-height Inv-loop μ-loop
-mul-is-height c = search needs
-
-shared-slice-copy-out-is-height : tie.Need-shared-slice-copy-out-is-height Inv-loop μ-loop
-shared-slice-copy-out-is-height c = search needs
-
-is-height-requires : tie.Need-is-height-requires Inv-loop μ-loop
-is-height-requires c κs = search needs
-
 add-i : tie.Need-add-i Inv-loop μ-loop
 add-i c = omega arith
 
@@ -62,9 +53,9 @@ all-in-spec =
     Inv-loop
     μ-loop
     loop-holds
-    mul-is-height
-    shared-slice-copy-out-is-height
-    is-height-requires
+    (search needs)
+    (search needs)
+    (search needs)
     add-i
     loop-less
     loop-again

@@ -35,15 +35,6 @@ tested c =
 loop-holds : tie.Need-loop-holds Inv-loop μ-loop
 loop-holds c = omega arith
 
-mul-is-height : tie.Need-mul-is-height Inv-loop μ-loop
-mul-is-height c = search needs
-
-shared-slice-copy-out-is-height : tie.Need-shared-slice-copy-out-is-height Inv-loop μ-loop
-shared-slice-copy-out-is-height c = search needs
-
-is-height-requires : tie.Need-is-height-requires Inv-loop μ-loop
-is-height-requires c κs = search needs
-
 returns : tie.Need-returns Inv-loop μ-loop
 returns c =
     let l = c .before .before .before .before in
@@ -70,9 +61,9 @@ first-out-spec =
     Inv-loop
     μ-loop
     loop-holds
-    mul-is-height
-    shared-slice-copy-out-is-height
-    is-height-requires
+    (search needs)
+    (search needs)
+    (search needs)
     returns
     add-i
     loop-less

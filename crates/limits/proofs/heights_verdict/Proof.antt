@@ -8,14 +8,8 @@ use Rattle.limits.proofs.Rows.{range-passed, range-refused}
 use Rattle.limits.proofs.heights_verdict.Statement.{statement}
 use Rattle.limits.proofs.heights_verdict.Tie as tie
 
-all-in-requires : tie.Need-all-in-requires
-all-in-requires c κs = search needs
-
 returns : tie.Need-returns
 returns c = sym (range-passed (c .before .before .args .heights .now) (sym (c .before .all-in .ensures) ∙ c .if1 .taken))
-
-first-out-requires : tie.Need-first-out-requires
-first-out-requires c κs = search needs
 
 cast-t4 : tie.Need-cast-t4
 cast-t4 c = omega (arith, firstNot-le isHeight (c .before .before .before .args .heights .now), c .first-out .ensures)
@@ -26,4 +20,4 @@ returns-2 c =
     (sym (range-refused (c .before .before .before .args .heights .now) (sym (c .before .before .all-in .ensures) ∙ c .before .if1 .left)))
 
 pub heights-verdict-spec : {M : Type 1} → statement M
-heights-verdict-spec = tie.close (tie.spec all-in-requires returns first-out-requires cast-t4 returns-2)
+heights-verdict-spec = tie.close (tie.spec (search needs) returns (search needs) cast-t4 returns-2)

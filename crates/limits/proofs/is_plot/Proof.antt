@@ -3,8 +3,5 @@ use borrow.Author.Needs.{needs}
 use Rattle.limits.proofs.is_plot.Statement.{statement}
 use Rattle.limits.proofs.is_plot.Tie as tie
 
-returns : tie.Need-returns
-returns c = search needs
-
 pub is-plot-spec : {M : Type 1} → statement M
-is-plot-spec = tie.close (tie.spec returns)
+is-plot-spec = tie.close (tie.spec (search needs))

@@ -13,9 +13,6 @@ use Rattle.limits.proofs.plot_verdict.Tie as tie
 sides : (c : tie.Else1) → isSide (c .before .before .args .rows) && isSide (c .before .before .args .columns) ≡ true
 sides c = sym (c .before .is-plot .ensures) ∙ not-false _ (c .if1 .left)
 
-is-plot-requires : tie.Need-is-plot-requires
-is-plot-requires c κs = search needs
-
 returns : tie.Need-returns
 returns c =
     let a = c .before .before .args in
@@ -36,4 +33,4 @@ returns-3 c =
     let a = c .before .before .before .args in sym (size-passed (plot (a .rows) (a .columns) (a .heights .now)) (sides (c .before)) (c .if2 .left))
 
 pub plot-verdict-spec : {M : Type 1} → statement M
-plot-verdict-spec = tie.close (tie.spec is-plot-requires returns mul-if2 cast-if2 returns-2 returns-3)
+plot-verdict-spec = tie.close (tie.spec (search needs) returns mul-if2 cast-if2 returns-2 returns-3)

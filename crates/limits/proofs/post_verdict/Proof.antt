@@ -26,9 +26,6 @@ sized c = sym (code (c .before .before .plot-verdict .ensures)) ∙ c .if1 .left
 ranged : (c : tie.Else2) → verdict (row4 isHeight (asked (c .before .before .before) .heights) ∷ []) .code ≡ 0
 ranged c = sym (code (c .before .before .heights-verdict .ensures)) ∙ c .if2 .left
 
-plot-verdict-requires : tie.Need-plot-verdict-requires
-plot-verdict-requires c κs = search needs
-
 returns : tie.Need-returns
 returns c =
     let e = c .before .before .plot-verdict .ensures in
@@ -53,4 +50,4 @@ returns-4 : tie.Need-returns-4
 returns-4 c = let s = c .before .before .before .before in sym (post-passed (asked s) _ (sized s) (ranged (c .before)) (c .if3 .left))
 
 pub post-verdict-spec : {M : Type 1} → statement M
-post-verdict-spec = tie.close (tie.spec plot-verdict-requires returns heights-verdict-requires returns-2 mul-if3 returns-3 returns-4)
+post-verdict-spec = tie.close (tie.spec (search needs) returns heights-verdict-requires returns-2 mul-if3 returns-3 returns-4)

@@ -13,11 +13,8 @@ sub-later-row c = omega (arith, c .before .before .before .pre .0 .sides)
 later-row-requires : tie.Need-later-row-requires
 later-row-requires c κs = (c .before .before .before .pre .0, omega arith, omega (arith, c .before .before .before .pre .0 .sides), omega (arith, c .before .before .before .pre .0 .sides))
 
-same-length : tie.Need-same-length
-same-length c = search needs
-
 returns : tie.Need-returns
 returns c = c .before .before .later-row .ensures
 
 pub east-row-spec : {M : Type 1} → statement M
-east-row-spec = tie.close (tie.spec add-later-row sub-later-row later-row-requires same-length returns)
+east-row-spec = tie.close (tie.spec add-later-row sub-later-row later-row-requires (search needs) returns)

@@ -24,15 +24,6 @@ lent c = parts-valid _ _ _ (sym (code (c .before .before .verdict .ensures)) ∙
 abbrev accepted : tie.After-fill-nexts → tie.Else1
 accepted f = f .before .before .before
 
-verdict-requires : tie.Need-verdict-requires
-verdict-requires c κs = search needs
-
-same-length : tie.Need-same-length
-same-length c = search needs
-
-same-length-2 : tie.Need-same-length-2
-same-length-2 c = search needs
-
 returns : tie.Need-returns
 unfolding partsAnswer
 returns c =
@@ -48,12 +39,6 @@ shorten-requires c κs = let f = c .before .before .before .before .before in da
 
 shorten-requires-2 : tie.Need-shorten-requires-2
 shorten-requires-2 c κs = let f = c .before .before .before .before .before .before .before .before .before in hills-end (lent (accepted f)) (f .fill-nexts .ensures)
-
-same-length-3 : tie.Need-same-length-3
-same-length-3 c = search needs
-
-same-length-4 : tie.Need-same-length-4
-same-length-4 c = search needs
 
 returns-2 : tie.Need-returns-2
 unfolding partsAnswer
@@ -72,4 +57,4 @@ returns-2 c =
     )
 
 pub dales-and-hills-spec : {M : Type 1} → statement M
-dales-and-hills-spec = tie.close (tie.spec verdict-requires same-length same-length-2 returns fill-nexts-requires shorten-requires shorten-requires-2 same-length-3 same-length-4 returns-2)
+dales-and-hills-spec = tie.close (tie.spec (search needs) (search needs) (search needs) returns fill-nexts-requires shorten-requires shorten-requires-2 (search needs) (search needs) returns-2)

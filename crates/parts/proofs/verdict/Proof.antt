@@ -20,9 +20,6 @@ asked c = let a = start c .args in plot (a .rows) (a .columns) (a .heights .now)
 sized : (c : tie.Else1) → verdict (row1 (asked c .rows) (asked c .columns) ∷ row2 (asked c) ∷ []) .code ≡ 0
 sized c = sym (code (c .before .before .plot-verdict .ensures)) ∙ c .if1 .left
 
-plot-verdict-requires : tie.Need-plot-verdict-requires
-plot-verdict-requires c κs = search needs
-
 returns : tie.Need-returns
 returns c =
     let e = c .before .before .plot-verdict .ensures in
@@ -38,4 +35,4 @@ returns-3 : tie.Need-returns-3
 returns-3 c = c .heights-verdict .ensures ∙ sym (lists-passed (asked (c .before .before)) _ _ (sized (c .before .before)) (c .before .if2 .left))
 
 pub verdict-spec : {M : Type 1} → statement M
-verdict-spec = tie.close (tie.spec plot-verdict-requires returns returns-2 heights-verdict-requires returns-3)
+verdict-spec = tie.close (tie.spec (search needs) returns returns-2 heights-verdict-requires returns-3)

@@ -6,15 +6,6 @@ use borrow.Author.Needs.{needs}
 use Rattle.surface_network.proofs.sn_reshoot.Statement.{statement}
 use Rattle.surface_network.proofs.sn_reshoot.Tie as tie
 
-reshoot-requires : tie.Need-reshoot-requires
-reshoot-requires c κs = search needs
-
-same-length : tie.Need-same-length
-same-length c = search needs
-
-same-length-2 : tie.Need-same-length-2
-same-length-2 c = search needs
-
 returns : tie.Need-returns
 returns c =
     let s = c .before .before .before .before .before .before .before in
@@ -22,4 +13,4 @@ returns c =
     rw r at (c .before .before .before .reshoot .ensures)
 
 pub sn-reshoot-spec : {M : Type 1} → statement M
-sn-reshoot-spec = tie.close (tie.spec reshoot-requires same-length same-length-2 returns)
+sn-reshoot-spec = tie.close (tie.spec (search needs) (search needs) (search needs) returns)

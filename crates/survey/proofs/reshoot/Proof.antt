@@ -37,24 +37,12 @@ passed c = sym (code (said (c .before))) ∙ c .if1 .left
 accepted : (c : tie.Else1) → let a = c .before .before .before .before .before .args in ForReshoot (asked (c .before)) (a .marks .now) (a .post) (a .height)
 accepted c = reshoot-valid _ _ _ _ (passed c)
 
-reshoot-verdict-requires : tie.Need-reshoot-verdict-requires
-reshoot-verdict-requires c κs = search needs
-
-same-length : tie.Need-same-length
-same-length c = search needs
-
-same-length-2 : tie.Need-same-length-2
-same-length-2 c = search needs
-
 returns : tie.Need-returns
 unfolding reshootAnswer
 returns c =
     let v = c .before in
     let k = reshoot-kept _ _ _ _ (λ z. c .if1 .taken (code (said v) ∙ z)) in
     (said v, (sym (k .0), sym (k .1)))
-
-mul-height : tie.Need-mul-height
-mul-height c = search needs
 
 slice-set-from-height : tie.Need-slice-set-from-height
 slice-set-from-height c = let a = accepted (c) in omega (arith, a .valid .size, a .postIn)
@@ -65,12 +53,6 @@ redraw-requires c κs =
     let a = accepted (c .before .before) in
     rw (held s) (record { valid = reshot-valid _ (s .args .post) (s .args .height) (a .valid) (a .inRange); post = a .postIn }, a .marksSize)
 
-same-length-3 : tie.Need-same-length-3
-same-length-3 c = search needs
-
-same-length-4 : tie.Need-same-length-4
-same-length-4 c = search needs
-
 returns-2 : tie.Need-returns-2
 unfolding reshootAnswer
 returns-2 c =
@@ -78,4 +60,4 @@ returns-2 c =
     (said (c .before .before .before .before .before .before), (rw (held (c .before .before .before .before .before .before .before .before .before .before)) (sym (k .0)), rw (held (c .before .before .before .before .before .before .before .before .before .before)) at (c .before .before .redraw .ensures) ∙ sym (k .1)))
 
 pub reshoot-spec : {M : Type 1} → statement M
-reshoot-spec = tie.close (tie.spec reshoot-verdict-requires same-length same-length-2 returns mul-height slice-set-from-height redraw-requires same-length-3 same-length-4 returns-2)
+reshoot-spec = tie.close (tie.spec (search needs) (search needs) (search needs) returns (search needs) slice-set-from-height redraw-requires (search needs) (search needs) returns-2)

@@ -23,12 +23,6 @@ passed c = sym (code (c .before .survey-verdict .ensures)) ∙ c .if1 .left
 accepted : (c : tie.Else1) → ForSurvey (asked (c .before)) (c .before .before .before .before .args .marks .now)
 accepted c = survey-valid _ _ (passed c)
 
-survey-verdict-requires : tie.Need-survey-verdict-requires
-survey-verdict-requires c κs = search needs
-
-same-length : tie.Need-same-length
-same-length c = search needs
-
 returns : tie.Need-returns
 returns c =
     let e = c .before .survey-verdict .ensures in
@@ -43,9 +37,6 @@ mark-plot-requires c κs = let a = accepted (c .before) in (a .valid, a .marksSi
 count-requires : tie.Need-count-requires
 count-requires c κs = let a = accepted (c .before .before .before .before .before) in omega (arith, c .before .before .before .mark-plot .kept .1 .1 .0, a .marksSize, a .valid .sides)
 
-same-length-2 : tie.Need-same-length-2
-same-length-2 c = search needs
-
 returns-2 : tie.Need-returns-2
 returns-2 c =
     let p = passed (c .before .before .before .before .before .before) in
@@ -54,4 +45,4 @@ returns-2 c =
     (rw (n .peaksAre, n .pitsAre, n .saddlesAre) (sym (survey-served _ _ p)), w)
 
 pub survey-spec : {M : Type 1} → statement M
-survey-spec = tie.close (tie.spec survey-verdict-requires same-length returns mark-plot-requires count-requires same-length-2 returns-2)
+survey-spec = tie.close (tie.spec (search needs) (search needs) returns mark-plot-requires count-requires (search needs) returns-2)

@@ -4,18 +4,6 @@ use borrow.Author.Needs.{needs}
 use Rattle.next.proofs.key.farther_of.Statement.{statement}
 use Rattle.next.proofs.key.farther_of.Tie as tie
 
-is-less-requires : tie.Need-is-less-requires
-is-less-requires c κs = search needs
-
-is-less-requires-2 : tie.Need-is-less-requires-2
-is-less-requires-2 c κs = search needs
-
-pick-requires : tie.Need-pick-requires
-pick-requires c κs = search needs
-
-choose-requires : tie.Need-choose-requires
-choose-requires c κs = search needs
-
 returns : tie.Need-returns
 returns c = (
   rw (c .choose .ensures, c .before .pick .ensures, c .before .before .is-less2 .ensures, c .before .before .before .is-less .ensures),
@@ -23,4 +11,4 @@ returns c = (
 )
 
 pub farther-of-spec : {M : Type 1} → statement M
-farther-of-spec = tie.close (tie.spec is-less-requires is-less-requires-2 pick-requires choose-requires returns)
+farther-of-spec = tie.close (tie.spec (search needs) (search needs) (search needs) (search needs) returns)

@@ -13,14 +13,8 @@ use Rattle.next.proofs.key.is_less.Tie as tie
 signed-small : (n : ℕ) → Small n → toZ w32 n ≡ pos n
 signed-small n h = rw (lt-ltb n 2147483648 h)
 
-cast-result : tie.Need-cast-result
-cast-result c = search needs
-
-cast-result-2 : tie.Need-cast-result-2
-cast-result-2 c = search needs
-
 returns : tie.Need-returns
 returns c = rw (signed-small (c .args .x) (c .pre .0), signed-small (c .args .y) (c .pre .1))
 
 pub is-less-spec : {M : Type 1} → statement M
-is-less-spec = tie.close (tie.spec cast-result cast-result-2 returns)
+is-less-spec = tie.close (tie.spec (search needs) (search needs) returns)

@@ -5,30 +5,6 @@ use borrow.Author.Needs.{needs}
 use Rattle.next.proofs.key.keep_corners.Statement.{statement}
 use Rattle.next.proofs.key.keep_corners.Tie as tie
 
-is-less-requires : tie.Need-is-less-requires
-is-less-requires c κs = search needs
-
-is-less-requires-2 : tie.Need-is-less-requires-2
-is-less-requires-2 c κs = search needs
-
-is-less-requires-3 : tie.Need-is-less-requires-3
-is-less-requires-3 c κs = search needs
-
-is-less-requires-4 : tie.Need-is-less-requires-4
-is-less-requires-4 c κs = search needs
-
-choose-requires : tie.Need-choose-requires
-choose-requires c κs = search needs
-
-choose-requires-2 : tie.Need-choose-requires-2
-choose-requires-2 c κs = search needs
-
-choose-requires-3 : tie.Need-choose-requires-3
-choose-requires-3 c κs = search needs
-
-choose-requires-4 : tie.Need-choose-requires-4
-choose-requires-4 c κs = search needs
-
 returns : tie.Need-returns
 returns c =
     let sw = c .before in
@@ -54,4 +30,4 @@ returns c =
     )
 
 pub keep-corners-spec : {M : Type 1} → statement M
-keep-corners-spec = tie.close (tie.spec is-less-requires is-less-requires-2 is-less-requires-3 is-less-requires-4 choose-requires choose-requires-2 choose-requires-3 choose-requires-4 returns)
+keep-corners-spec = tie.close (tie.spec (search needs) (search needs) (search needs) (search needs) (search needs) (search needs) (search needs) (search needs) returns)

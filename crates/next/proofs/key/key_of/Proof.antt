@@ -15,12 +15,6 @@ use Rattle.next.proofs.key.key_of.Tie as tie
 height-bits : (c : tie.After-raise-arg) → let z = getD (c .before .args .heights .now) (c .before .args .q) (pos 0) in toZ w32 (ofZ w32 z) ≡ z
 height-bits c = search needs
 
-mul-raise : tie.Need-mul-raise
-mul-raise c = search needs
-
-shared-slice-copy-out-raise : tie.Need-shared-slice-copy-out-raise
-shared-slice-copy-out-raise c = search needs
-
 raise-requires : tie.Need-raise-requires
 raise-requires c κs = rw (height-bits c) (all-at isHeight _ (pos 0) refl (c .before .pre .0 .valid .inRange) _)
 
@@ -40,4 +34,4 @@ returns c = (
 )
 
 pub key-of-spec : {M : Type 1} → statement M
-key-of-spec = tie.close (tie.spec mul-raise shared-slice-copy-out-raise raise-requires mul-result tie-place-requires add-result returns)
+key-of-spec = tie.close (tie.spec (search needs) (search needs) raise-requires mul-result tie-place-requires add-result returns)

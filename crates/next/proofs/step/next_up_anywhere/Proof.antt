@@ -18,9 +18,6 @@ told c =
     up-told (start .pre) _
     (rw (c .before .keep-corners .ensures .0, c .before .before .block-at .ensures .0, c .before .before .before .borders-of .ensures) at (c .farthest-in .ensures))
 
-borders-of-requires : tie.Need-borders-of-requires
-borders-of-requires c κs = search needs
-
 block-at-requires : tie.Need-block-at-requires
 block-at-requires c κs = (c .before .pre .valid, rw (c .borders-of .ensures) (cell-posts (c .before .pre)))
 
@@ -37,4 +34,4 @@ returns : tie.Need-returns
 returns c = c .post-of .ensures ∙ told (c .before) .post
 
 pub next-up-anywhere-spec : {M : Type 1} → statement M
-next-up-anywhere-spec = tie.close (tie.spec borders-of-requires block-at-requires keep-corners-requires farthest-in-requires post-of-requires returns)
+next-up-anywhere-spec = tie.close (tie.spec (search needs) block-at-requires keep-corners-requires farthest-in-requires post-of-requires returns)

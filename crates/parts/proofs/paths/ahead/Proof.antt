@@ -8,17 +8,8 @@ use Rattle.parts.proofs.Shorter.{two-steps}
 use Rattle.parts.proofs.paths.ahead.Statement.{statement}
 use Rattle.parts.proofs.paths.ahead.Tie as tie
 
-mul-next : tie.Need-mul-next
-mul-next c = search needs
-
-shared-slice-read-next : tie.Need-shared-slice-read-next
-shared-slice-read-next c = search needs
-
 cast-next : tie.Need-cast-next
 cast-next c = omega (arith, c .shared-slice-known2 .given (c .before .before .args .p))
-
-choose-requires : tie.Need-choose-requires
-choose-requires c κs = search needs
 
 returns : tie.Need-returns
 returns c =
@@ -27,4 +18,4 @@ returns c =
     rw (c .choose .ensures) (two-steps list (s .args .p) (s .pre) (ltb (getD list (s .args .p) 0) (length list)) refl)
 
 pub ahead-spec : {M : Type 1} → statement M
-ahead-spec = tie.close (tie.spec mul-next shared-slice-read-next cast-next choose-requires returns)
+ahead-spec = tie.close (tie.spec (search needs) (search needs) cast-next (search needs) returns)

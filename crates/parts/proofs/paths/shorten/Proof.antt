@@ -46,9 +46,6 @@ sub-choose c = omega arith
 sub-choose-2 : tie.Need-sub-choose-2 Inv-loop μ-loop
 sub-choose-2 c = omega arith
 
-choose-requires : tie.Need-choose-requires Inv-loop μ-loop
-choose-requires c κs = search needs
-
 settle-requires : tie.Need-settle-requires Inv-loop μ-loop
 settle-requires c κs =
     let l = c .before .before .before in
@@ -95,4 +92,4 @@ returns c =
     ∙ sym (getD-listOf (pathEnd was) n q 0 k))
 
 pub shorten-spec : {M : Type 1} → statement M
-shorten-spec = tie.close (tie.spec Inv-loop μ-loop loop-holds sub-choose sub-choose-2 choose-requires settle-requires add-i loop-less loop-again same-length returns)
+shorten-spec = tie.close (tie.spec Inv-loop μ-loop loop-holds sub-choose sub-choose-2 (search needs) settle-requires add-i loop-less loop-again same-length returns)

@@ -5,20 +5,11 @@ use borrow.Author.Needs.{needs}
 use Rattle.post.proofs.border.borders_of.Statement.{statement}
 use Rattle.post.proofs.border.borders_of.Tie as tie
 
-div-row : tie.Need-div-row
-div-row c = search needs
-
-rem-column : tie.Need-rem-column
-rem-column c = search needs
-
 add-t6 : tie.Need-add-t6
 add-t6 c = omega (arith, div-le-self (c .before .before .args .p) (c .before .before .args .grid .columns))
 
 add-t9 : tie.Need-add-t9
 add-t9 c = omega (arith, mod-le (c .before .before .before .args .p) (c .before .before .before .args .grid .columns))
 
-returns : tie.Need-returns
-returns c = search needs
-
 pub borders-of-spec : {M : Type 1} → statement M
-borders-of-spec = tie.close (tie.spec div-row rem-column add-t6 add-t9 returns)
+borders-of-spec = tie.close (tie.spec (search needs) (search needs) add-t6 add-t9 (search needs))

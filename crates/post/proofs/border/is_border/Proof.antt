@@ -3,11 +3,8 @@ use borrow.Author.Needs.{needs}
 use Rattle.post.proofs.border.is_border.Statement.{statement}
 use Rattle.post.proofs.border.is_border.Tie as tie
 
-borders-of-requires : tie.Need-borders-of-requires
-borders-of-requires c κs = search needs
-
 returns : tie.Need-returns
 returns c = rw (c .before .before .before .borders-of .ensures)
 
 pub is-border-spec : {M : Type 1} → statement M
-is-border-spec = tie.close (tie.spec borders-of-requires returns)
+is-border-spec = tie.close (tie.spec (search needs) returns)

@@ -18,9 +18,6 @@ falls-back-requires-2 c κs = let start = c .before .before .before .before .bef
 falls-back-requires-3 : tie.Need-falls-back-requires-3
 falls-back-requires-3 c κs = let start = c .before .before .before .before .before .before .before .before .before .before in (start .pre .0 .valid, λ h. cell-sw (start .pre .0 .valid .sides) (start .args .p) (start .pre .0 .post) (rw (start .pre .1) at h))
 
-add-falls-back : tie.Need-add-falls-back
-add-falls-back c = search needs
-
 falls-back-requires-4 : tie.Need-falls-back-requires-4
 falls-back-requires-4 c κs = let start = c .before .before .before .before .before .before .before .before .before .before .before .before in (start .pre .0 .valid, λ h. cell-nw (start .pre .0 .valid .sides) (start .args .p) (start .pre .0 .post) (rw (start .pre .1) at h))
 
@@ -43,4 +40,4 @@ returns c =
     (joined-by (top pl.columns p) (bottom pl.rows pl.columns p) (left pl.columns p) (right pl.columns p) (fallsIn pl (p - pl.columns)) (fallsIn pl p) (fallsIn pl (p - 1)) (fallsIn pl (p - pl.columns - 1)))
 
 pub corners-of-spec : {M : Type 1} → statement M
-corners-of-spec = tie.close (tie.spec falls-back-requires falls-back-requires-2 falls-back-requires-3 add-falls-back falls-back-requires-4 returns)
+corners-of-spec = tie.close (tie.spec falls-back-requires falls-back-requires-2 falls-back-requires-3 (search needs) falls-back-requires-4 returns)

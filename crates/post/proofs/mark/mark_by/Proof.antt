@@ -31,20 +31,8 @@ mark-by-runs first (suc zero) = refl
 mark-by-runs first (suc (suc n)) =
     rw (lt-ltb 1 (suc (suc n)) (omega arith), ne-eqb (suc (suc n)) 0 (omega arith), ne-eqb (suc (suc n)) 1 (omega arith)) (omega arith)
 
-cast-saddle : tie.Need-cast-saddle
-cast-saddle c = search needs
-
-add-saddle : tie.Need-add-saddle
-add-saddle c = search needs
-
 mul-saddle : tie.Need-mul-saddle
 mul-saddle c = omega (arith, at-most (ltb 1 (c .args .runs)) (c .args .runs + 1) 9 (omega arith))
-
-cast-extreme : tie.Need-cast-extreme
-cast-extreme c = search needs
-
-cast-extreme-2 : tie.Need-cast-extreme-2
-cast-extreme-2 c = search needs
 
 sub-extreme : tie.Need-sub-extreme
 sub-extreme c = peak-or-pit (c .args .first) .0
@@ -69,11 +57,11 @@ pub mark-by-spec : {M : Type 1} → statement M
 mark-by-spec =
     tie.close
     (tie.spec
-    cast-saddle
-    add-saddle
+    (search needs)
+    (search needs)
     mul-saddle
-    cast-extreme
-    cast-extreme-2
+    (search needs)
+    (search needs)
     sub-extreme
     mul-extreme
     add-result

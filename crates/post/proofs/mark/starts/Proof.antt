@@ -5,11 +5,8 @@ use borrow.Author.Needs.{needs}
 use Rattle.post.proofs.mark.starts.Statement.{statement}
 use Rattle.post.proofs.mark.starts.Tie as tie
 
-cast-result : tie.Need-cast-result
-cast-result c = search needs
-
 returns : tie.Need-returns
 returns c = flag (not (c .args .before) && (c .args .after || c .args .corner))
 
 pub starts-spec : {M : Type 1} → statement M
-starts-spec = tie.close (tie.spec cast-result returns)
+starts-spec = tie.close (tie.spec (search needs) returns)

@@ -6,15 +6,6 @@ use borrow.Author.Needs.{needs}
 use Rattle.post.proofs.ring.with_member.Statement.{statement}
 use Rattle.post.proofs.ring.with_member.Tie as tie
 
-mul-grown : tie.Need-mul-grown
-mul-grown c = search needs
-
-element-write-grown : tie.Need-element-write-grown
-element-write-grown c = search needs
-
-cast-grown : tie.Need-cast-grown
-cast-grown c = search needs
-
 add-grown : tie.Need-add-grown
 add-grown c = omega (arith, flag (c .args .there) .1)
 
@@ -22,4 +13,4 @@ returns : tie.Need-returns
 returns c = grown (c .args .ring) (c .args .there) (c .args .member) (c .pre)
 
 pub with-member-spec : {M : Type 1} → statement M
-with-member-spec = tie.close (tie.spec mul-grown element-write-grown cast-grown add-grown returns)
+with-member-spec = tie.close (tie.spec (search needs) (search needs) (search needs) add-grown returns)

@@ -5,25 +5,16 @@ use borrow.Author.Needs.{needs}
 use Rattle.post.proofs.ring.with_post.Statement.{statement}
 use Rattle.post.proofs.ring.with_post.Tie as tie
 
-add-with-member : tie.Need-add-with-member
-add-with-member c = search needs
-
 sub-with-member : tie.Need-sub-with-member
 sub-with-member c = omega (arith, c .before .pre .3 (c .if1 .taken))
-
-with-member-requires : tie.Need-with-member-requires
-with-member-requires c κs = search needs
 
 returns : tie.Need-returns
 unfolding virtualPit
 returns c = rw (c .before .if1 .taken) (c .with-member .ensures)
-
-with-member-requires-2 : tie.Need-with-member-requires-2
-with-member-requires-2 c κs = search needs
 
 returns-2 : tie.Need-returns-2
 unfolding virtualPit
 returns-2 c = rw (c .before .if1 .left) (c .with-member2 .ensures)
 
 pub with-post-spec : {M : Type 1} → statement M
-with-post-spec = tie.close (tie.spec add-with-member sub-with-member with-member-requires returns with-member-requires-2 returns-2)
+with-post-spec = tie.close (tie.spec (search needs) sub-with-member (search needs) returns (search needs) returns-2)

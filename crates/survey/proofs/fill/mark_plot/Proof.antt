@@ -67,50 +67,14 @@ loop-holds c =
 mul-base : tie.Need-mul-base Inv-loop μ-loop
 mul-base c = omega (arith, row (c), valid (c .before) .sides)
 
-slice-aggregate-east-row : tie.Need-slice-aggregate-east-row Inv-loop μ-loop
-slice-aggregate-east-row c = search needs
-
 east-row-requires : tie.Need-east-row-requires Inv-loop μ-loop
 east-row-requires c κs = let f = valid (c .before .before) in (f, omega (arith, row (c .before)), omega (arith, f .sides, c .before .before .loop .inv))
-
-slice-aggregate-south-rows : tie.Need-slice-aggregate-south-rows Inv-loop μ-loop
-slice-aggregate-south-rows c = search needs
-
-slice-aggregate-south-rows-2 : tie.Need-slice-aggregate-south-rows-2 Inv-loop μ-loop
-slice-aggregate-south-rows-2 c = search needs
-
-slice-aggregate-south-rows-3 : tie.Need-slice-aggregate-south-rows-3 Inv-loop μ-loop
-slice-aggregate-south-rows-3 c = search needs
 
 south-rows-requires : tie.Need-south-rows-requires Inv-loop μ-loop
 south-rows-requires c κs =
     let f = valid (c .before .before .before .before .before .before .before) in
     let v = c .before .before .before .before .before .before .before .loop .inv in
     (f, row (c .before .before .before .before .before .before), record { southLong = omega (arith, f .sides, v); sfallLong = omega (arith, f .sides, v); sriseLong = omega (arith, f .sides, v) })
-
-slice-aggregate-mark-row : tie.Need-slice-aggregate-mark-row Inv-loop μ-loop
-slice-aggregate-mark-row c = search needs
-
-slice-aggregate-mark-row-2 : tie.Need-slice-aggregate-mark-row-2 Inv-loop μ-loop
-slice-aggregate-mark-row-2 c = search needs
-
-slice-aggregate-mark-row-3 : tie.Need-slice-aggregate-mark-row-3 Inv-loop μ-loop
-slice-aggregate-mark-row-3 c = search needs
-
-slice-aggregate-mark-row-4 : tie.Need-slice-aggregate-mark-row-4 Inv-loop μ-loop
-slice-aggregate-mark-row-4 c = search needs
-
-slice-aggregate-mark-row-5 : tie.Need-slice-aggregate-mark-row-5 Inv-loop μ-loop
-slice-aggregate-mark-row-5 c = search needs
-
-slice-aggregate-mark-row-6 : tie.Need-slice-aggregate-mark-row-6 Inv-loop μ-loop
-slice-aggregate-mark-row-6 c = search needs
-
-slice-aggregate-mark-row-7 : tie.Need-slice-aggregate-mark-row-7 Inv-loop μ-loop
-slice-aggregate-mark-row-7 c = search needs
-
-slice-aggregate-mark-row-8 : tie.Need-slice-aggregate-mark-row-8 Inv-loop μ-loop
-slice-aggregate-mark-row-8 c = search needs
 
 mark-row-requires : tie.Need-mark-row-requires Inv-loop μ-loop
 mark-row-requires c κs =
@@ -127,9 +91,6 @@ mark-row-requires c κs =
       },
       omega (arith, v .outLong, v .narrow),
     )
-
-slice-aggregate-copy-row : tie.Need-slice-aggregate-copy-row Inv-loop μ-loop
-slice-aggregate-copy-row c = search needs
 
 copy-row-requires : tie.Need-copy-row-requires Inv-loop μ-loop
 copy-row-requires c κs =
@@ -189,4 +150,4 @@ returns c =
     l .loop .inv .done ∙ rw e (stores-all _ (a .grid .rows * a .grid .columns) (a .marks .now) 0 (c .before .before .before .pre .1))
 
 pub mark-plot-spec : {M : Type 1} → statement M
-mark-plot-spec = tie.close (tie.spec Inv-loop μ-loop array-write-side add-width mul-width loop-holds mul-base slice-aggregate-east-row east-row-requires slice-aggregate-south-rows slice-aggregate-south-rows-2 slice-aggregate-south-rows-3 south-rows-requires slice-aggregate-mark-row slice-aggregate-mark-row-2 slice-aggregate-mark-row-3 slice-aggregate-mark-row-4 slice-aggregate-mark-row-5 slice-aggregate-mark-row-6 slice-aggregate-mark-row-7 slice-aggregate-mark-row-8 mark-row-requires slice-aggregate-copy-row copy-row-requires add-r loop-less loop-again same-length returns)
+mark-plot-spec = tie.close (tie.spec Inv-loop μ-loop array-write-side add-width mul-width loop-holds mul-base (search needs) east-row-requires (search needs) (search needs) (search needs) south-rows-requires (search needs) (search needs) (search needs) (search needs) (search needs) (search needs) (search needs) (search needs) mark-row-requires (search needs) copy-row-requires add-r loop-less loop-again same-length returns)

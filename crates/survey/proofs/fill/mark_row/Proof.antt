@@ -57,9 +57,6 @@ shared-slice-read-w c = omega arith
 shared-slice-read-nw : tie.Need-shared-slice-read-nw Inv-loop μ-loop
 shared-slice-read-nw c = omega arith
 
-mark-of-requires : tie.Need-mark-of-requires Inv-loop μ-loop
-mark-of-requires c κs = search needs
-
 slice-write-out : tie.Need-slice-write-out Inv-loop μ-loop
 slice-write-out c = omega arith
 
@@ -106,7 +103,7 @@ mark-row-spec =
     shared-slice-read-sw
     shared-slice-read-w
     shared-slice-read-nw
-    mark-of-requires
+    (search needs)
     slice-write-out
     add-c
     loop-less

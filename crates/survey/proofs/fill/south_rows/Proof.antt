@@ -41,15 +41,6 @@ sub-later-row-2 c = omega (arith, c .before .before .before .before .before .bef
 later-row-requires-3 : tie.Need-later-row-requires-3
 later-row-requires-3 c κs = let start = c .before .before .before .before .before .before .before .before .before .before .before .before .before in let b = below (c .before .before .before .before .before .before .before .before .before) in let s = start .pre .0 .sides in (start .pre .0, omega (arith, s), omega (arith, b, s), omega (arith, start .pre .2, s))
 
-same-length : tie.Need-same-length
-same-length c = search needs
-
-same-length-2 : tie.Need-same-length-2
-same-length-2 c = search needs
-
-same-length-3 : tie.Need-same-length-3
-same-length-3 c = search needs
-
 returns : tie.Need-returns
 returns c =
     let pre = c .before .before .before .before .before .before .before .before .before .before .before .before .before .before .before .before .pre in
@@ -58,11 +49,8 @@ returns c =
 fill-row-requires : tie.Need-fill-row-requires
 fill-row-requires c κs = c .before .before .before .before .before .pre .2 .southLong
 
-same-length-4 : tie.Need-same-length-4
-same-length-4 c = search needs
-
 returns-2 : tie.Need-returns-2
 returns-2 c = let pre = c .before .before .before .before .before .before .before .before .pre in south-pit (pre .0) (pre .1) _ _ _ _ (omega (arith, pre .0 .size, c .before .before .before .before .if1 .left)) (pre .2 .southLong) (c .before .before .fill-row .ensures)
 
 pub south-rows-spec : {M : Type 1} → statement M
-south-rows-spec = tie.close (tie.spec add-next later-row-requires add-later-row sub-later-row later-row-requires-2 add-later-row-2 sub-later-row-2 later-row-requires-3 same-length same-length-2 same-length-3 returns fill-row-requires same-length-4 returns-2)
+south-rows-spec = tie.close (tie.spec add-next later-row-requires add-later-row sub-later-row later-row-requires-2 add-later-row-2 sub-later-row-2 later-row-requires-3 (search needs) (search needs) (search needs) returns fill-row-requires (search needs) returns-2)

@@ -43,9 +43,6 @@ div-row c = omega (arith, c .before .before .pre .0 .valid .sides)
 rem-column : tie.Need-rem-column Inv-loop μ-loop
 rem-column c = omega (arith, c .before .before .before .pre .0 .valid .sides)
 
-before-requires : tie.Need-before-requires Inv-loop μ-loop
-before-requires c κs = search needs
-
 end-after-requires : tie.Need-end-after-requires Inv-loop μ-loop
 end-after-requires c κs = inColumn (c .before .before .before .before)
 
@@ -54,9 +51,6 @@ sub-width c = omega (arith, inColumn (c .before .before .before .before .before)
 
 end-after-requires-2 : tie.Need-end-after-requires-2 Inv-loop μ-loop
 end-after-requires-2 c κs = inRow (c .before .before .before .before .before)
-
-before-requires-2 : tie.Need-before-requires-2 Inv-loop μ-loop
-before-requires-2 c κs = search needs
 
 loop-holds : tie.Need-loop-holds Inv-loop μ-loop
 loop-holds c = (omega arith, omega (arith, inRow (c .before .before .before .before .before .before .before)), painted-none (c .before .before .before .before .before .before .before .pre .0 .valid .sides) _ _ _ _ _)
@@ -110,4 +104,4 @@ returns c =
     (rw (u, v, f .ensures, c .before .before .before3 .ensures) at (l .loop .inv .2))
 
 pub redraw-spec : {M : Type 1} → statement M
-redraw-spec = tie.close (tie.spec Inv-loop μ-loop div-row rem-column before-requires end-after-requires sub-width end-after-requires-2 before-requires-2 loop-holds mul-mark-each add-mark-each mark-each-requires add-r loop-less loop-again same-length returns)
+redraw-spec = tie.close (tie.spec Inv-loop μ-loop div-row rem-column (search needs) end-after-requires sub-width end-after-requires-2 (search needs) loop-holds mul-mark-each add-mark-each mark-each-requires add-r loop-less loop-again same-length returns)

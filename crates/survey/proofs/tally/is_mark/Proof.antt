@@ -5,11 +5,8 @@ use Rattle.surface.proofs.General.Bools.{flag}
 use Rattle.survey.proofs.tally.is_mark.Statement.{statement}
 use Rattle.survey.proofs.tally.is_mark.Tie as tie
 
-cast-result : tie.Need-cast-result
-cast-result c = search needs
-
 returns : tie.Need-returns
 returns c = flag (eqb (c .args .m) (c .args .mark))
 
 pub is-mark-spec : {M : Type 1} → statement M
-is-mark-spec = tie.close (tie.spec cast-result returns)
+is-mark-spec = tie.close (tie.spec (search needs) returns)

@@ -47,9 +47,6 @@ tested c =
     let r : toZ w32 (ofZ w32 h) ≡ h = search needs in
     rw r at (c .is-height .ensures)
 
-survey-verdict-requires : tie.Need-survey-verdict-requires
-survey-verdict-requires c κs = search needs
-
 returns : tie.Need-returns
 unfolding surveyVerdict reshootVerdict
 returns c =
@@ -59,9 +56,6 @@ returns c =
 returns-2 : tie.Need-returns-2
 returns-2 c = let e = c .before in sym (goes-on e ∙ row-holds _ _ (ap not (le-ltb _ _ (rw (size e) at (c .if2 .taken)))))
 
-is-height-requires : tie.Need-is-height-requires
-is-height-requires c κs = search needs
-
 returns-3 : tie.Need-returns-3
 returns-3 c = sym (inside (c .before .before) ∙ row-holds _ _ (ap not (sym (tested (c .before)) ∙ not-true _ (c .if3 .taken))))
 
@@ -69,4 +63,4 @@ returns-4 : tie.Need-returns-4
 returns-4 c = sym (inside (c .before .before) ∙ row-passed _ _ (ap not (sym (tested (c .before)) ∙ not-false _ (c .if3 .left))) ∙ none-left)
 
 pub reshoot-verdict-spec : {M : Type 1} → statement M
-reshoot-verdict-spec = tie.close (tie.spec survey-verdict-requires returns returns-2 is-height-requires returns-3 returns-4)
+reshoot-verdict-spec = tie.close (tie.spec (search needs) returns returns-2 (search needs) returns-3 returns-4)

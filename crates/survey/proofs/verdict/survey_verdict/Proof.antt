@@ -27,9 +27,6 @@ sized c = sym (code (c .before .before .plot-verdict .ensures)) ∙ c .if1 .left
 lent : (c : tie.Else1) → Sides (asked c .rows) (asked c .columns) × (length (asked c .heights) ≡ posts (asked c))
 lent c = plot-sized (asked c) (sized c)
 
-plot-verdict-requires : tie.Need-plot-verdict-requires
-plot-verdict-requires c κs = search needs
-
 returns : tie.Need-returns
 unfolding surveyVerdict
 returns c =
@@ -53,4 +50,4 @@ returns-3 c =
     ∙ sym (leads-passed (_ ∷ _ ∷ []) _ tt (sized e) ∙ row-passed _ _ (ap not (eq-eqb _ _ (c .before .if2 .left ∙ lent e .1))))
 
 pub survey-verdict-spec : {M : Type 1} → statement M
-survey-verdict-spec = tie.close (tie.spec plot-verdict-requires returns returns-2 heights-verdict-requires returns-3)
+survey-verdict-spec = tie.close (tie.spec (search needs) returns returns-2 heights-verdict-requires returns-3)
