@@ -1,2 +1,2 @@
 -- What the rows of the table come to, case by case.
-pub mod Rows
+pub mod Table

@@ -4,7 +4,7 @@ use native.Mathlib.Omega.{arith}
 use borrow.Author.Needs.{needs}
 use Rattle.surface.specs.Plot.{isHeight}
 use Rattle.surface.proofs.General.FirstNot.{firstNot-le}
-use Rattle.limits.proofs.Rows.{range-passed, range-refused}
+use Rattle.limits.proofs.Table.{range-passed, range-refused}
 use Rattle.limits.proofs.heights_verdict.Statement.{statement}
 use Rattle.limits.proofs.heights_verdict.Tie as tie
 

@@ -5,7 +5,7 @@ use native.Mathlib.Omega.{arith}
 use borrow.Author.Tests.{not-true, not-false}
 use Rattle.surface.specs.Plot.{plot, isSide}
 use Rattle.surface.proofs.AnyOrder.Grid.{test-sides}
-use Rattle.limits.proofs.Rows.{sides-refused, size-refused, size-passed}
+use Rattle.limits.proofs.Table.{sides-refused, size-refused, size-passed}
 use borrow.Author.Needs.{needs}
 use Rattle.limits.proofs.plot_verdict.Statement.{statement}
 use Rattle.limits.proofs.plot_verdict.Tie as tie

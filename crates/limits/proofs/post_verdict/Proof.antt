@@ -8,7 +8,7 @@ use Rattle.surface.specs.Refusals.{verdict, row1, row2, row4}
 use Rattle.surface.specs.declared.Answer.{Answer}
 use Rattle.surface.proofs.OfCalls.Verdicts.{leads-refused}
 use Rattle.surface.proofs.OfCalls.Accepted.{plot-sized}
-use Rattle.limits.proofs.Rows.{post-range, post-refused, post-passed}
+use Rattle.limits.proofs.Table.{post-range, post-refused, post-passed}
 use Rattle.limits.proofs.post_verdict.Statement.{statement}
 use Rattle.limits.proofs.post_verdict.Tie as tie
 
