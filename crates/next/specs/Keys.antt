@@ -19,7 +19,7 @@ raised (negsuc n) = 999999 - n
 abbrev pub keyOf : Plot → ℕ → ℕ → ℕ
 keyOf pl p q = raised (height pl q) * 256 + tiePlace pl.columns p q
 
--- what stands `ahead` numbers after p and `back` before that is a post of the block
+-- what stands `ahead` numbers after p and `back` before that is a post, as near to p as those of the block are
 pub record Beside (pl : Plot) (p ahead back : ℕ) : Type 0 where
   pub from : back ≤ p + ahead
   pub post : p + ahead - back < posts pl

@@ -1,4 +1,5 @@
-// The height order of a plot. Nothing else compares two heights to tell which post is below.
+// The height order of a plot. Nothing else compares two heights to tell which post is below, but `next` by keys, which are made of a height and of
+// `tie_place`.
 use surface::Grid;
 use surface::VIRTUAL_PIT;
 ghost use mathlib.Core.Path.{_≡_};

@@ -34,7 +34,7 @@ pub record LineFrom (n : ℕ) (lower : ℕ → ℕ → Bool) (isEnd : ℕ → Ty
   pub ends : isEnd (lastOr post rest)
   pub fits : length entries ≤ n + 1
 
--- the lines of one direction, given by a call's answers and lists; of every post there are `runs post` runs
+-- the lines of one direction, given by a call's answers and lists; `runs post` are the runs of a post
 pub record Lines (n : ℕ) (lower : ℕ → ℕ → Bool) (isEnd : ℕ → Type 0) (marks : List ℕ) (runs : ℕ → List (List ℕ)) (answer : ℕ → ℕ → List ℕ → Entries) (list : ℕ → ℕ → List ℕ → List ℕ) : Type 0 where
   -- every line falls at every step and ends at an end
   pub falls : (post run : ℕ) (lent : List ℕ) → answer post run lent .code ≡ 0

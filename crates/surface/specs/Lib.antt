@@ -1,5 +1,5 @@
 -- The definitions of docs/SPECIFICATION.md, a file for each of its sections. These files are what a reader must believe; the laws are in proofs/.
--- (Lists, Flags and Demand are no sections of it. Flags serves the code, and no promise of a call cites it; Demand states what is proved of them all.)
+-- (Lists, Flags and Demand are no sections of their own. Flags serves the code, and no promise of a call cites it; Demand states what is proved of them all.)
 --
 -- To read them without knowing the language:
 --     f : A → B, and below it f x = ..       a definition with its type; `abbrev`, `unfoldable` and `pub` may be skipped
@@ -16,7 +16,7 @@
 --     take n l   drop n l   map f l          the first n elements; the others; f of each.  flatten: lists one after the other
 --     A × B   A ⊎ B   A ↔ B   A → ⊥   x ≡ y  and; or; if and only if; not; equal.  T b: b is true.  Unit {0}: no condition
 --     List·Memᴰ x l                          x is an element of l
---     record { x = ..; y = .. }   a .x       a value of named parts; its part x
+--     record { x = ..; y = .. }   a .x       a value of named parts; its part x, also written a.x
 --     data D where a b : ..                  the values, or the proofs, of D are made by a and b alone
 --     module _ (x : A) where ..              every definition in it takes x as a further, first argument
 pub mod Lists

@@ -36,7 +36,7 @@ unfoldable pub afterCalls : Marked → List Reshoot → Marked
 afterCalls s [] = s
 afterCalls s (c ∷ cs) = afterCalls (afterCall s c) cs
 
--- the accepted ones speak of the surveyed plot `pl`, with the heights that are lent
+-- the accepted ones have the surveyed rows and columns: they speak of `pl`, with the heights that are lent
 unfoldable pub Kept : Plot → Marked → List Reshoot → Type 0
 Kept pl s [] = Unit {0}
 Kept pl s (c ∷ cs) =

@@ -1,4 +1,4 @@
--- Rows of flags: each tells of the posts of a row whether a neighbour is below.
+-- Rows of flags: each tells of the posts of a row whether the post on one side, or at one corner, is below.
 --     north nrise  nfall      the flags of the row above, turned: from a post to N, NE and NW (its own to S, SW and SE)
 --     side                    to E, and turned to W
 --     south srise  sfall      to S, SW and SE
@@ -31,7 +31,7 @@ pub record RowOf (rows columns base : ℕ) : Type 0 where
   pub start : base ≡ r * columns
   pub room : base + columns ≤ rows * columns
 
--- the flags of the edges from that row to the one below it
+-- the flags from that row to the one below it
 pub record South (pl : Plot) (base : ℕ) (south sfall srise : List Bool) : Type 0 where
   pub down : (c : ℕ) → c < pl.columns → getD south c false ≡ bottom pl.rows pl.columns (base + c) || below pl (base + pl.columns + c) (base + c)
   pub fall : base + pl.columns < posts pl → (c : ℕ) → c + 1 < pl.columns → getD sfall (c + 1) false ≡ below pl (base + pl.columns + (c + 1)) (base + c)

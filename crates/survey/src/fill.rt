@@ -1,4 +1,4 @@
-// The marks of a whole plot, a row at a time, every edge compared once.
+// The marks of a whole plot, a row at a time, every two posts that touch compared once.
 use order::east_row;
 use order::later_row;
 use post::mark::Below;
@@ -43,7 +43,7 @@ fn copy_row(from: &[u8], n: usize, marks: &mut [u8], at: usize)
     }
 }
 
-// The flags of the edges from the row that starts at `base` to the one below it; below the bottom row is the virtual pit.
+// The flags from the row that starts at `base` to the one below it; below the bottom row is the virtual pit.
 fn south_rows(
     heights: &[i32],
     grid: Grid,

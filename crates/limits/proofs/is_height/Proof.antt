@@ -1,4 +1,4 @@
--- Two comparisons. (Written out, and not left to a search, so that a wrong bound is refused here.)
+-- Two comparisons. (A file of its own, so that a wrong bound is refused here.)
 use borrow.Author.Needs.{needs}
 use Rattle.limits.proofs.is_height.Statement.{statement}
 use Rattle.limits.proofs.is_height.Tie as tie

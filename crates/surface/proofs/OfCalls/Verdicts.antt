@@ -2,10 +2,12 @@
 use Prim.Native.Nat.{ℕ, _<_}
 use native.Mathlib.Omega.{arith}
 use mathlib.Core.Path.{_≡_, refl}
-use mathlib.Core.Bool.{Bool, true, false, cond, _&&_}
+use mathlib.Core.Logic.{_↔_}
+use mathlib.Core.Bool.{Bool, true, false, cond, _&&_, _||_, true≢false}
 use mathlib.Core.List.{List, [], _∷_, _++_}
 use lib.Dec.{T, ltb, eqb, ltb→lt}
 use borrow.Author.Tests.{ne-eqb}
+use Rattle.surface.specs.Lists.{any}
 use Rattle.surface.specs.Refusals.{Row, rowOf, accepted, verdict, settled}
 use Rattle.surface.specs.declared.Answer.{Answer}
 
@@ -61,6 +63,19 @@ accepted-passed r rs n e = by (r .holds) e (ltb→lt 0 (r .code) (and-parts (ltb
     by : (b : Bool) → cond b (record { code = r .code; place = r .place }) (verdict rs) .code ≡ 0 → 0 < r .code → (b ≡ false) × (verdict rs .code ≡ 0)
     by true e h = absurd (omega arith)
     by false e h = (refl, e)
+
+-- a call is accepted exactly if no row holds
+pub accepted-clear : (rs : List Row) → T (numbered rs) → verdict rs .code ≡ 0 ↔ any (λ r. r .holds) rs ≡ false
+unfolding verdict any
+accepted-clear [] n = (λ e. refl, λ e. refl)
+accepted-clear (r ∷ rs) n =
+    let ns = and-parts (ltb 0 (r .code)) (numbered rs) n in
+    by (r .holds) (ltb→lt 0 (r .code) (ns .0)) (accepted-clear rs (ns .1))
+  where
+    by : (b : Bool) → 0 < r .code → verdict rs .code ≡ 0 ↔ any (λ x. x .holds) rs ≡ false
+        → (cond b (record { code = r .code; place = r .place }) (verdict rs)) .code ≡ 0 ↔ b || any (λ x. x .holds) rs ≡ false
+    by true h f = (λ e. absurd (omega arith), λ e. absurd (true≢false e))
+    by false h f = f
 
 -- the row of a number (one that does not hold, where there is none)
 abbrev pub rowAt : ℕ → List Row → Row
