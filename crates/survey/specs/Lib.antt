@@ -1,3 +1,2 @@
 -- What the parts of a survey give each other.
-pub mod Rows
 pub mod Tally

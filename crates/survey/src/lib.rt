@@ -1,9 +1,9 @@
 // The two calls that write marks: survey and re-shoot.
-mod fill;
 mod redraw;
 mod tally;
 mod verdict;
 
+use marks::mark_plot;
 use redraw::redraw;
 use surface::Answer;
 use surface::Counts;
@@ -34,7 +34,7 @@ pub fn survey(rows: u32, columns: u32, heights: &[i32], marks: &mut [u8]) -> Cou
         rows: rows as usize,
         columns: columns as usize,
     };
-    fill::mark_plot(heights, grid, marks);
+    mark_plot(heights, grid, marks);
     let t = tally::count(marks);
     Counts {
         code: 0,

@@ -10,11 +10,11 @@ use Rattle.surface.specs.Lists.{stores}
 use Rattle.surface.specs.Plot.{plotOf, Valid}
 use Rattle.surface.specs.Marks.{marksOf}
 use Rattle.surface.proofs.General.Stores.{stores-join, stores-all}
-use Rattle.survey.specs.Rows.{RowOf}
-use Rattle.survey.proofs.Told.{Head, row-of, all-false, north-start, north-next, side-told, row-marked}
+use Rattle.marks.specs.Rows.{RowOf}
+use Rattle.marks.proofs.Told.{Head, row-of, all-false, north-start, north-next, side-told, row-marked}
 use borrow.Author.Needs.{needs}
-use Rattle.survey.proofs.fill.mark_plot.Statement.{statement}
-use Rattle.survey.proofs.fill.mark_plot.Tie as tie
+use Rattle.marks.proofs.mark_plot.Statement.{statement}
+use Rattle.marks.proofs.mark_plot.Tie as tie
 
 abbrev Inv-loop : tie.InvT-loop
 Inv-loop heights grid marks₀ rows columns north₀ nfall₀ nrise₀ side₀ south₀ sfall₀ srise₀ out₀ width r₀ marks north nfall nrise side south sfall srise out r =

@@ -12,7 +12,7 @@ ghost use Rattle.surface.specs.Lists.{stores};
 ghost use Rattle.surface.specs.Plot.{plotOf, posts, Valid};
 ghost use Rattle.surface.specs.Marks.{marksOf};
 ghost use Rattle.post.specs.Flags.{markFrom};
-ghost use Rattle.survey.specs.Rows.{roundOf, RowOf, South, SouthLong, Wide};
+ghost use Rattle.marks.specs.Rows.{roundOf, RowOf, South, SouthLong, Wide};
 
 // A row is worked on in whole blocks of 16 posts, the last one filled up, so that no post is left over from the vector code; two flags more than that.
 const WIDTH: usize = 128;
@@ -106,7 +106,7 @@ fn mark_row(
 }
 
 // The marks of a whole plot.
-pub(crate) fn mark_plot(heights: &[i32], grid: Grid, marks: &mut [u8])
+pub fn mark_plot(heights: &[i32], grid: Grid, marks: &mut [u8])
     requires { ⌜ Valid (plotOf grid (now heights)) × (length (now marks) ≡ posts (plotOf grid (now heights))) ⌝ }
     ensures { λ _. ⌜ now (marks .exit) ≡ marksOf (plotOf grid (now (heights .entry))) ⌝ }
 {

@@ -16,7 +16,7 @@ use Rattle.surface.proofs.AnyOrder.Grid.{row-lt, row-is, column-is, top-false, 
 use Rattle.surface.proofs.OfPlots.HeightOrder.{below-strict}
 use Rattle.post.specs.Flags.{markFrom, Compared}
 use Rattle.post.proofs.Compared.{mark-compared}
-use Rattle.survey.specs.Rows.{roundOf, RowOf, South, North, Side}
+use Rattle.marks.specs.Rows.{roundOf, RowOf, South, North, Side}
 
 -- the same stores
 stores-same : {A : Type 0} (f g : ℕ → A) (from n : ℕ) (l : List A) → ((i : ℕ) → i < n → f (from + i) ≡ g (from + i)) → stores f from n l ≡ stores g from n l

@@ -1,12 +1,12 @@
--- `fill::copy_row` meets its contract. The loop's invariant: c stores were made.
+-- `marks::copy_row` meets its contract. The loop's invariant: c stores were made.
 use Prim.Native.Nat.{_+_, _-_, _≤_}
 use native.Mathlib.Omega.{arith}
 use mathlib.Core.Path.{_≡_, refl, _∙_}
 use lib.ListN.{length, getD, length-set}
 use Rattle.surface.specs.Lists.{stores}
 use Rattle.surface.proofs.General.Stores.{store-next}
-use Rattle.survey.proofs.fill.copy_row.Statement.{statement}
-use Rattle.survey.proofs.fill.copy_row.Tie as tie
+use Rattle.marks.proofs.copy_row.Statement.{statement}
+use Rattle.marks.proofs.copy_row.Tie as tie
 
 abbrev Inv-loop : tie.InvT-loop
 Inv-loop from n marks₀ at c₀ marks c = (c ≤ n) × (length marks ≡ length marks₀) × (marks ≡ stores (λ k. getD from (k - at) 0) at c marks₀)

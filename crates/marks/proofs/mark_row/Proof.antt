@@ -1,4 +1,4 @@
--- `fill::mark_row` meets its contract. The loop's invariant: c marks were stored.
+-- `marks::mark_row` meets its contract. The loop's invariant: c marks were stored.
 use Prim.Native.Nat.{_+_, _-_, _≤_}
 use native.Mathlib.Omega.{arith}
 use mathlib.Core.Path.{_≡_, refl, _∙_}
@@ -7,9 +7,9 @@ use borrow.Author.Needs.{needs}
 use Rattle.surface.specs.Lists.{stores}
 use Rattle.surface.proofs.General.Stores.{store-next}
 use Rattle.post.specs.Flags.{markFrom}
-use Rattle.survey.specs.Rows.{roundOf}
-use Rattle.survey.proofs.fill.mark_row.Statement.{statement}
-use Rattle.survey.proofs.fill.mark_row.Tie as tie
+use Rattle.marks.specs.Rows.{roundOf}
+use Rattle.marks.proofs.mark_row.Statement.{statement}
+use Rattle.marks.proofs.mark_row.Tie as tie
 
 abbrev Inv-loop : tie.InvT-loop
 Inv-loop north nfall nrise side south sfall srise out₀ width c₀ out c =

@@ -1,4 +1,4 @@
--- `fill::fill_row` meets its contract. The loop's invariant: c stores were made.
+-- `marks::fill_row` meets its contract. The loop's invariant: c stores were made.
 use Prim.Native.Nat.{_+_, _-_, _≤_}
 use native.Mathlib.Omega.{arith}
 use mathlib.Core.Path.{_≡_, refl, _∙_}
@@ -6,8 +6,8 @@ use mathlib.Core.Bool.{true}
 use lib.ListN.{length, length-set}
 use Rattle.surface.specs.Lists.{stores}
 use Rattle.surface.proofs.General.Stores.{store-next}
-use Rattle.survey.proofs.fill.fill_row.Statement.{statement}
-use Rattle.survey.proofs.fill.fill_row.Tie as tie
+use Rattle.marks.proofs.fill_row.Statement.{statement}
+use Rattle.marks.proofs.fill_row.Tie as tie
 
 abbrev Inv-loop : tie.InvT-loop
 Inv-loop flags₀ n c₀ flags c = (c ≤ n) × (length flags ≡ length flags₀) × (flags ≡ stores (λ _. true) 0 c flags₀)

@@ -1,10 +1,10 @@
 -- Three rows of comparisons, or the virtual pit.
 use Prim.Native.Nat.{_+_, _*_, _≤_, _<_}
 use native.Mathlib.Omega.{arith}
-use Rattle.survey.proofs.Told.{row-below, south-told, south-pit}
+use Rattle.marks.proofs.Told.{row-below, south-told, south-pit}
 use borrow.Author.Needs.{needs}
-use Rattle.survey.proofs.fill.south_rows.Statement.{statement}
-use Rattle.survey.proofs.fill.south_rows.Tie as tie
+use Rattle.marks.proofs.south_rows.Statement.{statement}
+use Rattle.marks.proofs.south_rows.Tie as tie
 
 -- where there is a row below, it is whole
 below : (c : tie.Then1)

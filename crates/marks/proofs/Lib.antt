@@ -1,0 +1,2 @@
+-- What rows of flags tell of the posts.
+pub mod Told
