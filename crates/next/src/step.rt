@@ -11,7 +11,7 @@ use surface::Grid;
 use surface::UP;
 use surface::VIRTUAL_PIT;
 ghost use mathlib.Core.Path.{_≡_};
-ghost use mathlib.Core.Bool.{true, false};
+ghost use mathlib.Core.Bool.{false};
 ghost use Rattle.surface.specs.Plot.{plotOf, PostOf};
 ghost use Rattle.surface.specs.Edges.{isBorder};
 ghost use Rattle.surface.specs.Lines.{next, toward, up};

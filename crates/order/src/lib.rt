@@ -3,7 +3,7 @@
 use surface::Grid;
 use surface::VIRTUAL_PIT;
 ghost use mathlib.Core.Path.{_≡_};
-ghost use mathlib.Core.Bool.{true, cond};
+ghost use mathlib.Core.Bool.{true};
 ghost use Prim.Native.Nat.{_+_, _-_, _<_, _≤_};
 ghost use lib.IntN.{pos};
 ghost use lib.Signed.{ltZ};

@@ -8,7 +8,6 @@ use surface::VIRTUAL_PIT;
 ghost use mathlib.Core.Path.{_≡_};
 ghost use mathlib.Core.Bool.{true, cond};
 ghost use Prim.Native.Nat.{_+_, _-_, _≤_, _<_};
-ghost use lib.ListN.{length};
 ghost use Rattle.surface.specs.Plot.{plotOf, maxPosts, virtualPit, PostOf, Sides};
 ghost use Rattle.surface.specs.Edges.{members, ringOf};
 ghost use Rattle.post.specs.Corners.{Neighbours};
