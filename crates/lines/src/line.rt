@@ -93,10 +93,8 @@ pub(crate) fn draw_line(
     if !start.found {
         return refused(8, 0);
     }
-    let from = Walk {
-        post: start.post,
-        up,
-    };
+    let first = start.post;
+    let from = Walk { post: first, up };
     if !has_room(heights, grid, from, line.len()) {
         return refused(9, 0);
     }

@@ -102,9 +102,6 @@ copy-row-requires c κs =
 add-r : tie.Need-add-r Inv-loop μ-loop
 add-r c = omega (arith, c .before .before .before .before .before .before .before .before .before .before .before .before .before .before .before .before .before .before .before .before .before .before .before .before .before .loop-test .taken, valid (c .before .before .before .before .before .before .before .before .before .before .before .before .before .before .before .before .before .before .before .before .before .before .before .before .before .before) .sides)
 
-loop-less : tie.Need-loop-less Inv-loop μ-loop
-loop-less c = omega arith
-
 loop-again : tie.Need-loop-again Inv-loop μ-loop
 loop-again c =
     let v = c .before .before .before .before .before .before .before .before .before .before .before .before .before .before .before .before .before .before .before .before .before .before .before .before .before .before .loop .inv in
@@ -150,4 +147,4 @@ returns c =
     l .loop .inv .done ∙ rw e (stores-all _ (a .grid .rows * a .grid .columns) (a .marks .now) 0 (c .before .before .before .pre .1))
 
 pub mark-plot-spec : {M : Type 1} → statement M
-mark-plot-spec = tie.close (tie.spec Inv-loop μ-loop array-write-side add-width mul-width loop-holds mul-base (search needs) east-row-requires (search needs) (search needs) (search needs) south-rows-requires (search needs) (search needs) (search needs) (search needs) (search needs) (search needs) (search needs) (search needs) mark-row-requires (search needs) copy-row-requires add-r loop-less loop-again same-length returns)
+mark-plot-spec = tie.close (tie.spec Inv-loop μ-loop array-write-side add-width mul-width loop-holds mul-base (search needs) east-row-requires (search needs) (search needs) (search needs) south-rows-requires (search needs) (search needs) (search needs) (search needs) (search needs) (search needs) (search needs) (search needs) mark-row-requires (search needs) copy-row-requires add-r (λ c. omega arith) loop-again same-length returns)

@@ -24,48 +24,6 @@ loop-holds : tie.Need-loop-holds Inv-loop μ-loop
 unfolding stores
 loop-holds c = (omega arith, refl, refl)
 
-shared-slice-read-n : tie.Need-shared-slice-read-n Inv-loop μ-loop
-shared-slice-read-n c = omega arith
-
-add-ne : tie.Need-add-ne Inv-loop μ-loop
-add-ne c = omega arith
-
-shared-slice-read-ne : tie.Need-shared-slice-read-ne Inv-loop μ-loop
-shared-slice-read-ne c = omega arith
-
-add-e : tie.Need-add-e Inv-loop μ-loop
-add-e c = omega arith
-
-shared-slice-read-e : tie.Need-shared-slice-read-e Inv-loop μ-loop
-shared-slice-read-e c = omega arith
-
-add-se : tie.Need-add-se Inv-loop μ-loop
-add-se c = omega arith
-
-shared-slice-read-se : tie.Need-shared-slice-read-se Inv-loop μ-loop
-shared-slice-read-se c = omega arith
-
-shared-slice-read-s : tie.Need-shared-slice-read-s Inv-loop μ-loop
-shared-slice-read-s c = omega arith
-
-shared-slice-read-sw : tie.Need-shared-slice-read-sw Inv-loop μ-loop
-shared-slice-read-sw c = omega arith
-
-shared-slice-read-w : tie.Need-shared-slice-read-w Inv-loop μ-loop
-shared-slice-read-w c = omega arith
-
-shared-slice-read-nw : tie.Need-shared-slice-read-nw Inv-loop μ-loop
-shared-slice-read-nw c = omega arith
-
-slice-write-out : tie.Need-slice-write-out Inv-loop μ-loop
-slice-write-out c = omega arith
-
-add-c : tie.Need-add-c Inv-loop μ-loop
-add-c c = omega arith
-
-loop-less : tie.Need-loop-less Inv-loop μ-loop
-loop-less c = omega arith
-
 loop-again : tie.Need-loop-again Inv-loop μ-loop
 loop-again c =
     let h = c .before .before .before .before .before .before .before .before .before .before in
@@ -92,21 +50,21 @@ mark-row-spec =
     Inv-loop
     μ-loop
     loop-holds
-    shared-slice-read-n
-    add-ne
-    shared-slice-read-ne
-    add-e
-    shared-slice-read-e
-    add-se
-    shared-slice-read-se
-    shared-slice-read-s
-    shared-slice-read-sw
-    shared-slice-read-w
-    shared-slice-read-nw
+    (λ c. omega arith)
+    (λ c. omega arith)
+    (λ c. omega arith)
+    (λ c. omega arith)
+    (λ c. omega arith)
+    (λ c. omega arith)
+    (λ c. omega arith)
+    (λ c. omega arith)
+    (λ c. omega arith)
+    (λ c. omega arith)
+    (λ c. omega arith)
     (search needs)
-    slice-write-out
-    add-c
-    loop-less
+    (λ c. omega arith)
+    (λ c. omega arith)
+    (λ c. omega arith)
     loop-again
     same-length
     returns)

@@ -29,18 +29,6 @@ add-later-is-below-2 c = omega (arith, c .before .before .before .pre .0 .sides)
 later-is-below-requires : tie.Need-later-is-below-requires Inv-loop μ-loop
 later-is-below-requires c κs = (record { valid = c .before .before .before .pre .0; post = omega arith }, omega arith)
 
-add-flags : tie.Need-add-flags Inv-loop μ-loop
-add-flags c = omega arith
-
-slice-write-flags : tie.Need-slice-write-flags Inv-loop μ-loop
-slice-write-flags c = omega arith
-
-add-i : tie.Need-add-i Inv-loop μ-loop
-add-i c = omega arith
-
-loop-less : tie.Need-loop-less Inv-loop μ-loop
-loop-less c = omega arith
-
 loop-again : tie.Need-loop-again Inv-loop μ-loop
 loop-again c =
     let l = c .before .before .loop in
@@ -61,4 +49,4 @@ returns c =
     rw e at (l .inv .2)
 
 pub later-row-spec : {M : Type 1} → statement M
-later-row-spec = tie.close (tie.spec Inv-loop μ-loop loop-holds add-later-is-below add-later-is-below-2 later-is-below-requires add-flags slice-write-flags add-i loop-less loop-again same-length returns)
+later-row-spec = tie.close (tie.spec Inv-loop μ-loop loop-holds add-later-is-below add-later-is-below-2 later-is-below-requires (λ c. omega arith) (λ c. omega arith) (λ c. omega arith) (λ c. omega arith) loop-again same-length returns)

@@ -115,8 +115,8 @@ write-entries-requires c κs =
     let at-else1 = c .before .before .before .before .before .before .before .before .before in
     record { walk = stands (c .before .before .before); post = post at-else1 .post; room = room (c .before) }
 
-cast-t22 : tie.Need-cast-t22
-cast-t22 c =
+cast-t23 : tie.Need-cast-t23
+cast-t23 c =
     let at-else3 = c .before .before .before .before .before .before in
     omega (arith, c .before .before .write-entries .ensures .0, path-low (stands at-else3))
 
@@ -133,4 +133,4 @@ pub draw-line-spec : {M : Type 1} → statement M
 draw-line-spec =
     tie.close
     (tie.spec (search needs) (search needs) returns mark-at-requires (search needs) returns-2 ring-at-requires line-start-requires
-    (search needs) returns-3 has-room-requires (search needs) returns-4 write-entries-requires cast-t22 (search needs) returns-5)
+    (search needs) returns-3 has-room-requires (search needs) returns-4 write-entries-requires cast-t23 (search needs) returns-5)

@@ -62,12 +62,6 @@ mul-hills c = omega (arith, post (c .before .before) .post, post (c .before .bef
 slice-write-hills : tie.Need-slice-write-hills Inv-loop μ-loop
 slice-write-hills c = omega (arith, post (c .before .before) .post, lent (c .before .before .before) .hillsSize)
 
-add-i : tie.Need-add-i Inv-loop μ-loop
-add-i c = omega arith
-
-loop-less : tie.Need-loop-less Inv-loop μ-loop
-loop-less c = omega arith
-
 loop-again : tie.Need-loop-again Inv-loop μ-loop
 loop-again c = (omega arith, filled-more (c .before .before .before .loop .inv .1) _ _ (c .before .next-inside .ensures) (c .next-inside2 .ensures))
 
@@ -83,4 +77,4 @@ returns c =
     rw e at (c .before .loop .inv .1)
 
 pub fill-inside-spec : {M : Type 1} → statement M
-fill-inside-spec = tie.close (tie.spec Inv-loop μ-loop loop-holds add-p next-inside-requires cast-dales mul-dales slice-write-dales next-inside-requires-2 cast-hills mul-hills slice-write-hills add-i loop-less loop-again same-length same-length-2 returns)
+fill-inside-spec = tie.close (tie.spec Inv-loop μ-loop loop-holds add-p next-inside-requires cast-dales mul-dales slice-write-dales next-inside-requires-2 cast-hills mul-hills slice-write-hills (λ c. omega arith) (λ c. omega arith) loop-again same-length same-length-2 returns)

@@ -24,9 +24,6 @@ fill-row-requires c κs = let l = c .before .before .before in (filled-lists (l 
 add-r : tie.Need-add-r Inv-loop μ-loop
 add-r c = let t = c .before .before .before .before .before .before .before in omega (arith, t .loop-test .taken, t .before .before .before .before .pre .valid .sides)
 
-loop-less : tie.Need-loop-less Inv-loop μ-loop
-loop-less c = omega arith
-
 loop-again : tie.Need-loop-again Inv-loop μ-loop
 loop-again c =
     let f = c .before .before .before .before in
@@ -46,4 +43,4 @@ returns c =
     rw e at (c .before .loop .inv .1)
 
 pub fill-nexts-spec : {M : Type 1} → statement M
-fill-nexts-spec = tie.close (tie.spec Inv-loop μ-loop loop-holds fill-row-requires add-r loop-less loop-again same-length same-length-2 returns)
+fill-nexts-spec = tie.close (tie.spec Inv-loop μ-loop loop-holds fill-row-requires add-r (λ c. omega arith) loop-again same-length same-length-2 returns)

@@ -14,25 +14,10 @@ Inv-loop list p e₀ e = (e < 65536) × (pathEnd list e ≡ pathEnd list p)
 abbrev μ-loop : tie.MeasureT-loop
 μ-loop list p e₀ e = stepsLeft list e
 
-mul-e : tie.Need-mul-e Inv-loop μ-loop
-mul-e c = omega arith
-
-shared-slice-read-e : tie.Need-shared-slice-read-e Inv-loop μ-loop
-shared-slice-read-e c = omega arith
-
 loop-holds : tie.Need-loop-holds Inv-loop μ-loop
 loop-holds c =
     let a = c .before .args in
     (omega (arith, c .shared-slice-known .given (a .p)), read-end (shorter-none _) (a .p) (c .before .pre .0) (c .before .pre .1))
-
-cast-i : tie.Need-cast-i Inv-loop μ-loop
-cast-i c = omega arith
-
-mul-next : tie.Need-mul-next Inv-loop μ-loop
-mul-next c = omega arith
-
-shared-slice-read-next : tie.Need-shared-slice-read-next Inv-loop μ-loop
-shared-slice-read-next c = omega arith
 
 loop-less : tie.Need-loop-less Inv-loop μ-loop
 loop-less c =
@@ -59,4 +44,4 @@ returns-2 c =
     sym (along-stays list (length list) (l .loop .e) (entry list _ _ 0 (c .before .before .if1 .left) ∙ c .if2 .taken)) ∙ l .loop .inv .1
 
 pub end-of-spec : {M : Type 1} → statement M
-end-of-spec = tie.close (tie.spec Inv-loop μ-loop mul-e shared-slice-read-e loop-holds cast-i mul-next shared-slice-read-next loop-less loop-again returns returns-2)
+end-of-spec = tie.close (tie.spec Inv-loop μ-loop (λ c. omega arith) (λ c. omega arith) loop-holds (λ c. omega arith) (λ c. omega arith) (λ c. omega arith) loop-less loop-again returns returns-2)

@@ -40,24 +40,12 @@ abbrev μ-loop : tie.MeasureT-loop
 loop-holds : tie.Need-loop-holds Inv-loop μ-loop
 loop-holds c = (omega arith, refl, c .before .pre, λ q. refl, λ j h. absurd (omega arith))
 
-sub-choose : tie.Need-sub-choose Inv-loop μ-loop
-sub-choose c = omega arith
-
-sub-choose-2 : tie.Need-sub-choose-2 Inv-loop μ-loop
-sub-choose-2 c = omega arith
-
 settle-requires : tie.Need-settle-requires Inv-loop μ-loop
 settle-requires c κs =
     let l = c .before .before .before in
     let a = l .before .before .args in
     let h = met-in (a .up) (length (a .list .now)) (l .loop .i) (c .before .before .loop-test .taken) in
     (l .loop .inv .2, rw (c .before .choose .ensures, l .loop .inv .1) h)
-
-add-i : tie.Need-add-i Inv-loop μ-loop
-add-i c = omega arith
-
-loop-less : tie.Need-loop-less Inv-loop μ-loop
-loop-less c = omega arith
 
 loop-again : tie.Need-loop-again Inv-loop μ-loop
 loop-again c =
@@ -92,4 +80,4 @@ returns c =
     ∙ sym (getD-listOf (pathEnd was) n q 0 k))
 
 pub shorten-spec : {M : Type 1} → statement M
-shorten-spec = tie.close (tie.spec Inv-loop μ-loop loop-holds sub-choose sub-choose-2 (search needs) settle-requires add-i loop-less loop-again same-length returns)
+shorten-spec = tie.close (tie.spec Inv-loop μ-loop loop-holds (λ c. omega arith) (λ c. omega arith) (search needs) settle-requires (λ c. omega arith) (λ c. omega arith) loop-again same-length returns)

@@ -29,15 +29,6 @@ mark-at-requires c κs = record { valid = c .before .before .before .pre .0; pos
 add-marks : tie.Need-add-marks Inv-loop μ-loop
 add-marks c = omega (arith, c .before .before .before .before .pre .0 .sides)
 
-slice-write-marks : tie.Need-slice-write-marks Inv-loop μ-loop
-slice-write-marks c = omega arith
-
-add-i : tie.Need-add-i Inv-loop μ-loop
-add-i c = omega arith
-
-loop-less : tie.Need-loop-less Inv-loop μ-loop
-loop-less c = omega arith
-
 loop-again : tie.Need-loop-again Inv-loop μ-loop
 loop-again c =
     let l = c .before .before .loop in
@@ -57,4 +48,4 @@ returns c =
     rw e at (l .inv .2)
 
 pub mark-each-spec : {M : Type 1} → statement M
-mark-each-spec = tie.close (tie.spec Inv-loop μ-loop loop-holds add-mark-at mark-at-requires add-marks slice-write-marks add-i loop-less loop-again same-length returns)
+mark-each-spec = tie.close (tie.spec Inv-loop μ-loop loop-holds add-mark-at mark-at-requires add-marks (λ c. omega arith) (λ c. omega arith) (λ c. omega arith) loop-again same-length returns)

@@ -64,12 +64,6 @@ add-mark-each c = omega (arith, whole (c .before), inColumn (c .before .before .
 mark-each-requires : tie.Need-mark-each-requires Inv-loop μ-loop
 mark-each-requires c κs = (c .before .before .before .before .before .before .before .before .before .before .before .pre .0 .valid, c .before .before .before .loop .inv .2 .long ∙ c .before .before .before .before .before .before .before .before .before .before .before .pre .1, omega (arith, whole (c .before .before), inColumn (c .before .before .before .before .before .before .before .before .before .before .before)))
 
-add-r : tie.Need-add-r Inv-loop μ-loop
-add-r c = omega arith
-
-loop-less : tie.Need-loop-less Inv-loop μ-loop
-loop-less c = omega arith
-
 loop-again : tie.Need-loop-again Inv-loop μ-loop
 loop-again c =
     let l = c .before .before .before .before .before .before in
@@ -104,4 +98,4 @@ returns c =
     (rw (u, v, f .ensures, c .before .before .before3 .ensures) at (l .loop .inv .2))
 
 pub redraw-spec : {M : Type 1} → statement M
-redraw-spec = tie.close (tie.spec Inv-loop μ-loop div-row rem-column (search needs) end-after-requires sub-width end-after-requires-2 (search needs) loop-holds mul-mark-each add-mark-each mark-each-requires add-r loop-less loop-again same-length returns)
+redraw-spec = tie.close (tie.spec Inv-loop μ-loop div-row rem-column (search needs) end-after-requires sub-width end-after-requires-2 (search needs) loop-holds mul-mark-each add-mark-each mark-each-requires (λ c. omega arith) (λ c. omega arith) loop-again same-length returns)

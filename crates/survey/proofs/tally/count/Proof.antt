@@ -24,45 +24,6 @@ Inv-loop marks peaks₀ pits₀ saddles₀ i₀ peaks pits saddles i =
 abbrev μ-loop : tie.MeasureT-loop
 μ-loop marks peaks₀ pits₀ saddles₀ i₀ peaks pits saddles i = length marks - i
 
-loop-holds : tie.Need-loop-holds Inv-loop μ-loop
-loop-holds c = omega arith
-
-part-end-requires : tie.Need-part-end-requires Inv-loop μ-loop
-part-end-requires c κs = omega arith
-
-count-part-requires : tie.Need-count-part-requires Inv-loop μ-loop
-count-part-requires c κs = omega arith
-
-cast-peaks : tie.Need-cast-peaks Inv-loop μ-loop
-cast-peaks c = omega arith
-
-add-peaks : tie.Need-add-peaks Inv-loop μ-loop
-add-peaks c = omega arith
-
-count-part-requires-2 : tie.Need-count-part-requires-2 Inv-loop μ-loop
-count-part-requires-2 c κs = omega arith
-
-cast-pits : tie.Need-cast-pits Inv-loop μ-loop
-cast-pits c = omega arith
-
-add-pits : tie.Need-add-pits Inv-loop μ-loop
-add-pits c = omega arith
-
-total-part-requires : tie.Need-total-part-requires Inv-loop μ-loop
-total-part-requires c κs = omega arith
-
-cast-saddles : tie.Need-cast-saddles Inv-loop μ-loop
-cast-saddles c = omega arith
-
-add-saddles : tie.Need-add-saddles Inv-loop μ-loop
-add-saddles c = omega arith
-
-loop-less : tie.Need-loop-less Inv-loop μ-loop
-loop-less c = omega arith
-
-loop-again : tie.Need-loop-again Inv-loop μ-loop
-loop-again c = omega arith
-
 returns : tie.Need-returns Inv-loop μ-loop
 unfolding peaks pits saddles
 returns c =
@@ -82,17 +43,17 @@ count-spec =
     (tie.spec
     Inv-loop
     μ-loop
-    loop-holds
-    part-end-requires
-    count-part-requires
-    cast-peaks
-    add-peaks
-    count-part-requires-2
-    cast-pits
-    add-pits
-    total-part-requires
-    cast-saddles
-    add-saddles
-    loop-less
-    loop-again
+    (λ c. omega arith)
+    (λ c κs. omega arith)
+    (λ c κs. omega arith)
+    (λ c. omega arith)
+    (λ c. omega arith)
+    (λ c κs. omega arith)
+    (λ c. omega arith)
+    (λ c. omega arith)
+    (λ c κs. omega arith)
+    (λ c. omega arith)
+    (λ c. omega arith)
+    (λ c. omega arith)
+    (λ c. omega arith)
     returns)

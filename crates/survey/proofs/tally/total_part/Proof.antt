@@ -17,24 +17,6 @@ Inv-loop marks from to n₀ i₀ n i =
 abbrev μ-loop : tie.MeasureT-loop
 μ-loop marks from to n₀ i₀ n i = to - i
 
-loop-holds : tie.Need-loop-holds Inv-loop μ-loop
-loop-holds c = omega arith
-
-shared-slice-read-multiplicity-of : tie.Need-shared-slice-read-multiplicity-of Inv-loop μ-loop
-shared-slice-read-multiplicity-of c = omega arith
-
-multiplicity-of-requires : tie.Need-multiplicity-of-requires Inv-loop μ-loop
-multiplicity-of-requires c κs = omega arith
-
-add-n : tie.Need-add-n Inv-loop μ-loop
-add-n c = omega arith
-
-add-i : tie.Need-add-i Inv-loop μ-loop
-add-i c = omega arith
-
-loop-less : tie.Need-loop-less Inv-loop μ-loop
-loop-less c = omega arith
-
 loop-again : tie.Need-loop-again Inv-loop μ-loop
 loop-again c =
     let i = c .before .before in
@@ -55,11 +37,11 @@ total-part-spec =
     (tie.spec
     Inv-loop
     μ-loop
-    loop-holds
-    shared-slice-read-multiplicity-of
-    multiplicity-of-requires
-    add-n
-    add-i
-    loop-less
+    (λ c. omega arith)
+    (λ c. omega arith)
+    (λ c κs. omega arith)
+    (λ c. omega arith)
+    (λ c. omega arith)
+    (λ c. omega arith)
     loop-again
     returns)
