@@ -54,7 +54,7 @@ extern "C" {
 
 /* Version of the library. The build takes it from these three lines. */
 #define SN_VERSION_MAJOR 1
-#define SN_VERSION_MINOR 1
+#define SN_VERSION_MINOR 2
 #define SN_VERSION_PATCH 0
 #define SN_VERSION \
     SN_TEXT(SN_VERSION_MAJOR) "." SN_TEXT(SN_VERSION_MINOR) "." SN_TEXT(SN_VERSION_PATCH)
@@ -137,6 +137,18 @@ enum {
 #define SN_SADDLE_RUNS(mark) (SN_IS_SADDLE(mark) ? (mark) - 1u : 0u)
 #define SN_MULTIPLICITY(mark) (SN_IS_SADDLE(mark) ? (mark) - 2u : 0u)
 
+/* What sn_ring writes, one byte for each member of a ring: how it lies to the post. */
+enum {
+    SN_NO_MEMBER = 0, /* past the ring's last member */
+    SN_ABOVE_BY_HEIGHT = 1,
+    SN_ABOVE_BY_TIE = 2,    /* equal heights, and above in the height order */
+    SN_BELOW_BY_HEIGHT = 3, /* the virtual pit too */
+    SN_BELOW_BY_TIE = 4     /* equal heights, and below in the height order */
+};
+
+/* No ring has more members, and the list that sn_ring writes has exactly these bytes. */
+#define SN_RING_LENGTH 8
+
 /* Codes. */
 enum {
     SN_OK = 0,
@@ -188,6 +200,12 @@ typedef struct sn_counts {
     uint32_t saddles; /* summed by multiplicity; where accepted,
                          peaks + pits - saddles = 2 */
 } sn_counts;
+
+typedef struct sn_ring_mark {
+    uint32_t code, place;
+    uint32_t k;    /* the post's lower runs: 1 at a peak, whose ring is all below; 0 at a pit */
+    uint32_t mark; /* what sn_survey writes at the post */
+} sn_ring_mark;
 
 typedef struct sn_next {
     uint32_t code, place;
@@ -242,6 +260,27 @@ sn_answer sn_reshoot(uint32_t rows, uint32_t columns,
                      int32_t *heights, size_t heights_length,
                      uint8_t *marks, size_t marks_length,
                      uint32_t post, int32_t height);
+
+/*
+ * Ring: the grounds of a post's mark. How each member of its ring lies to it, in the
+ * ring's order, with the number of lower runs and the mark.
+ *
+ * Reads   heights, rows * columns of them.
+ * Writes  ring, exactly SN_RING_LENGTH bytes: a code for each member from the front,
+ *         without gaps, then SN_NO_MEMBER. Taken as a circle, the codes from
+ *         SN_BELOW_BY_HEIGHT on make k runs.
+ * Answers SN_OK, or in this order
+ *   SN_BAD_SIDES
+ *   SN_BAD_HEIGHTS_LENGTH
+ *   SN_BAD_LIST_LENGTH      ring is not SN_RING_LENGTH bytes
+ *   SN_HEIGHT_OUT_OF_RANGE  place: the first such post
+ *   SN_NO_SUCH_POST
+ */
+SN_USE_ANSWER SN_READS(3, 4) SN_WRITES(6, 7)
+sn_ring_mark sn_ring(uint32_t rows, uint32_t columns,
+                     const int32_t *heights, size_t heights_length,
+                     uint32_t post,
+                     uint8_t *ring, size_t ring_length);
 
 /*
  * Next down: the lowest neighbour of a post, or the post itself if it is a pit.
