@@ -1,9 +1,9 @@
 -- A saddle and its ring: its members are vertices, not all of them below it and not all above; where its lines go to.
-use Prim.Native.Nat.{ℕ, zero, suc, _+_, _-_, _≤_, _<_}
+use Prim.Native.Nat.{ℕ, _+_, _-_, _≤_, _<_}
 use native.Mathlib.Omega.{arith}
 use mathlib.Core.Path.{_≡_, refl, sym, _∙_, ap}
 use mathlib.Core.Bool.{Bool, true, false, cond, true≢false}
-use mathlib.Core.List.{List, [], _∷_, _++_, List·Memᴰ, List·Memᴰ·head, List·Memᴰ·tail}
+use mathlib.Core.List.{List, [], _∷_, _++_, List·Memᴰ}
 use borrow.Author.Tests.{ltb-true, ltb-false, lt-ltb, le-ltb, not-true}
 use lib.Dec.{ltb}
 use lib.ListN.{length, getD, length-append}
@@ -19,6 +19,7 @@ use Rattle.surface.proofs.AnyOrder.Walks.{Falling}
 use Rattle.surface.proofs.OfPlots.Instance.{toward-falling}
 use Rattle.post.specs.declared.ring.Ring.{Ring}
 use Rattle.post.specs.Rings.{held}
+use Rattle.post.proofs.Rings.{held-vertex}
 use Rattle.lines.specs.Runs.{Saddle, StartsAt, lowestFrom, Starts}
 use Rattle.lines.proofs.Running.{getD-front, getD-back}
 
@@ -37,14 +38,6 @@ unfolding markFor
 saddle-both true true k h = (refl, refl)
 saddle-both true false k h = absurd (omega arith)
 saddle-both false b k h = absurd (omega arith)
-
-getD-member : (l : List ℕ) (i : ℕ) → i < length l → List·Memᴰ (getD l i 0) l
-getD-member [] i h = absurd (omega arith)
-getD-member (x ∷ l) i h = go i h (getD-member l)
-  where
-    go : (i : ℕ) → i < length (x ∷ l) → ((i : ℕ) → i < length l → List·Memᴰ (getD l i 0) l) → List·Memᴰ (getD (x ∷ l) i 0) (x ∷ l)
-    go zero h ih = List·Memᴰ·head refl
-    go (suc i) h ih = List·Memᴰ·tail (ih i (omega arith))
 
 all-some : (s : ℕ → Bool) (l : List ℕ) → all s l ≡ false → 0 < length l
 unfolding all
@@ -87,9 +80,7 @@ module _ {pl : Plot} {p : ℕ} {r : Ring} (z : Saddle pl p r) where
   some = omega (arith, long, all-some _ (held r) (mixed true))
 
   member-vertex : (i : ℕ) → i < r .len → Vertex (posts pl) (getD (held r) i 0)
-  member-vertex i h =
-      rw (z .holds .members)
-      (law true .ringVertex p _ (z .post .post) (rw (toward-ring pl true p) (getD-member (ringOf pl p) i (omega (arith, z .holds .len)))))
+  member-vertex = held-vertex (z .post) (z .holds)
 
   -- the ring gone round twice
   pub twice-long : length (held r ++ held r) ≡ r .len + r .len

@@ -2,12 +2,18 @@
 use Prim.Native.Nat.{ℕ, _<_, _≤_}
 use mathlib.Core.Path.{_≡_, refl}
 use mathlib.Core.Bool.{Bool, true, false, not, _||_, and-true, and-false, or-false}
+use mathlib.Core.Logic.{⊎-elim}
 use native.Mathlib.Omega.{arith}
 use lib.Signed.{ltZ}
 use borrow.Author.Tests.{lt-ltb, le-ltb}
-use Rattle.surface.specs.Plot.{Plot, posts, height, below, PostOf}
+use Rattle.surface.specs.Plot.{Plot, posts, height, virtualPit, Vertex, below, PostOf}
 use Rattle.surface.proofs.AnyOrder.Grid.{not-pit}
 use Rattle.surface.proofs.OfPlots.HeightOrder.{ltZ-asym, below-lex}
+
+-- a vertex that is not the virtual pit
+pub vertex-post : {n p : ℕ} → Vertex n p → (p ≡ 65535 → ⊥) → p < n
+unfolding virtualPit
+vertex-post {n} {p} v h = ⊎-elim (λ (k : p < n). k) (λ (k : p ≡ virtualPit). absurd (h k)) v
 
 settled : (x y : Bool) → (x ≡ true → y ≡ false) → (x || not y) ≡ not y
 settled true true h = h refl

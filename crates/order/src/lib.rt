@@ -9,7 +9,7 @@ ghost use lib.IntN.{pos};
 ghost use lib.Signed.{ltZ};
 ghost use lib.ListN.{length, getD};
 ghost use Rattle.surface.specs.Lists.{stores};
-ghost use Rattle.surface.specs.Plot.{plotOf, posts, maxSide, maxPosts, Vertex, below, Valid, PostOf};
+ghost use Rattle.surface.specs.Plot.{plotOf, posts, maxSide, maxPosts, Vertex, below, tied, Valid, PostOf};
 ghost use Rattle.surface.specs.Edges.{lowerOf};
 ghost use Rattle.surface.specs.Lines.{toward};
 ghost use Rattle.order.specs.Ties.{Near, tiePlace};
@@ -53,6 +53,17 @@ pub fn is_below(heights: &[i32], grid: Grid, p: usize, q: usize) -> bool
         return earlier_is_below(heights, grid, q, p);
     }
     is_less(heights, p, q)
+}
+
+// Vertex q is a post, and of p's height.
+pub fn is_tied(heights: &[i32], grid: Grid, p: usize, q: usize) -> bool
+    requires { ⌜ PostOf (plotOf grid (now heights)) p × Vertex (posts (plotOf grid (now heights))) q ⌝ }
+    ensures { λ r. ⌜ r ≡ tied (plotOf grid (now (heights .entry))) p q ⌝ }
+{
+    if q == VIRTUAL_PIT {
+        return false;
+    }
+    !(is_less(heights, p, q) | is_less(heights, q, p))
 }
 
 // p is below q, or above it where `up`.

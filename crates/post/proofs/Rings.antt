@@ -6,18 +6,20 @@ use mathlib.Core.List.{List, [], _∷_, _++_, append-nil, append-assoc}
 use native.Mathlib.Nat.{add-zero}
 use native.Mathlib.Numerals.{add-one}
 use native.Mathlib.Omega.{arith}
-use lib.ListN.{length, take, set, length-set}
+use lib.ListN.{length, getD, take, set, length-set}
 use lib.Seq.{take-suc-set, take-set-le, length-take-le}
 use mir.Val.{boolByte}
 use Rattle.surface.specs.Lists.{keep}
-use Rattle.surface.specs.Plot.{virtualPit, Sides}
-use Rattle.surface.specs.Edges.{Place, place, members, places, ring, top, bottom, left, right}
+use Rattle.surface.specs.Plot.{Plot, posts, virtualPit, Vertex, Sides, PostOf}
+use Rattle.surface.specs.Edges.{Place, place, members, fallsIn, places, ring, ringOf, top, bottom, left, right}
 use Rattle.post.specs.declared.ring.Ring.{Ring}
 use Rattle.post.specs.Corners.{bordersOf, cornersOf}
 use Rattle.post.specs.Rings.{held, Open, Grown, Holds, ringPlaces}
 use Rattle.surface.proofs.General.Bools.{flag}
 use Rattle.surface.proofs.AnyOrder.Grid.{top-false}
+use Rattle.surface.proofs.General.ListOf.{getD-member}
 use Rattle.surface.proofs.AnyOrder.RingPlaces.{diagonal}
+use Rattle.surface.proofs.AnyOrder.RingEdges.{ring-member}
 
 -- one member more
 grown-list : (l : List ℕ) (n : ℕ) (there : Bool) (m : ℕ) → n < length l → take (n + boolByte there) (set l n m) ≡ take n l ++ keep there m
@@ -74,3 +76,9 @@ module _ {rows columns : ℕ} (s : Sides rows columns) (p : ℕ) (falls : ℕ �
       (same _ _ _ _ (corner (joined .sw) (λ k. omega arith))
       (same _ _ _ _ (side (not (l && (t || (r || b)))) l (omega arith))
       (same _ _ _ _ (corner (joined .nw) (λ k. omega arith)) refl)))))))
+
+-- the members of a ring are vertices of the plot
+pub held-vertex : {pl : Plot} {p : ℕ} {r : Ring} → PostOf pl p → Holds r (ringOf pl p) → (i : ℕ) → i < r .len → Vertex (posts pl) (getD (held r) i 0)
+unfolding ringOf
+held-vertex {pl} {p} post h i k =
+    rw (h .members) (ring-member (post .valid .sides) (fallsIn pl) p _ (post .post) (getD-member (ringOf pl p) i 0 (omega (arith, h .len))))

@@ -3,6 +3,7 @@ pub mod Verdicts
 pub mod SurveyFile
 pub mod Accepted
 pub mod MarkCalls
+pub mod RingCall
 pub mod FileCalls
 pub mod RoundTrip
 pub mod Series

@@ -2,3 +2,4 @@
 pub mod HeightOrder
 pub mod Instance
 pub mod Redrawn
+pub mod Codes

@@ -6,12 +6,14 @@ use mathlib.Core.List.{List, _++_}
 use lib.IntN.{ℤ}
 use lib.ListN.{length, getD, set, drop}
 use Rattle.surface.specs.Plot.{Plot, posts, reshot}
-use Rattle.surface.specs.Marks.{marksOf, redrawn, peaks, pits, saddles}
+use Rattle.surface.specs.Marks.{markAt, marksOf, redrawn, peaks, pits, saddles}
+use Rattle.surface.specs.Codes.{ringBytes, runsBelow}
 use Rattle.surface.specs.Lines.{Descent, next, line, down, up, dalesOf, hillsOf}
 use Rattle.surface.specs.SurveyFile.{heightsIn, fileOf}
-use Rattle.surface.specs.Refusals.{settled, surveyVerdict, reshootVerdict, nextVerdict, lineVerdict, partsVerdict, readVerdict, writeVerdict}
+use Rattle.surface.specs.Refusals.{settled, surveyVerdict, reshootVerdict, ringVerdict, nextVerdict, lineVerdict, partsVerdict, readVerdict, writeVerdict}
 use Rattle.surface.specs.declared.Answer.{Answer}
 use Rattle.surface.specs.declared.Counts.{Counts}
+use Rattle.surface.specs.declared.RingMark.{RingMark}
 use Rattle.surface.specs.declared.Next.{Next}
 use Rattle.surface.specs.declared.Entries.{Entries}
 use Rattle.surface.specs.declared.Size.{Size}
@@ -41,6 +43,15 @@ module _ (pl : Plot) where
 
   unfoldable pub reshootAnswer : List ℕ → ℕ → ℤ → Answer
   reshootAnswer marks post new = reshootVerdict pl marks post new
+
+  -- ring(rows, columns, heights, post, ring)
+  unfoldable pub ringAnswer : ℕ → List ℕ → RingMark
+  ringAnswer post ring =
+      let v = ringVerdict pl post ring in
+      record { code = v .code; place = v .place; k = settled v (runsBelow pl post) 0; mark = settled v (markAt pl post) 0 }
+
+  unfoldable pub ringList : ℕ → List ℕ → List ℕ
+  ringList post ring = settled (ringVerdict pl post ring) (ringBytes pl post) ring
 
   -- next_down(rows, columns, heights, post), next_up(..)
   abbrev pub nextAnswer : Descent → ℕ → Next

@@ -1,8 +1,8 @@
 -- Between the definitions and the code: the mark of a post by which of the eight posts round it are below it, joined to it or not. (The calls' promises
 -- do not speak of it.) Beyond a border is the virtual pit, which is below.
-use Prim.Native.Nat.{ℕ, _+_}
+use Prim.Native.Nat.{ℕ, _+_, _-_}
 use mathlib.Core.Bool.{Bool, cond, not, _&&_, _||_}
-use lib.Dec.{eqb}
+use lib.Dec.{ltb, eqb}
 use Rattle.surface.specs.Lists.{one}
 
 -- how many lower runs start: one on the way from a side by the corner to the next side, where the first is not below and the corner or the next is
@@ -13,3 +13,7 @@ runsBy n ne e se s sw w nw =
 -- the mark by whether the ring's first member is below and the number of lower runs that start: where none does, all members are of one sort
 unfoldable pub markBy : Bool → ℕ → ℕ
 markBy first k = cond (eqb k 0) (cond first 1 2) (cond (eqb k 1) 0 (k + 1))
+
+-- the lower runs that a mark tells of: none at a pit, one at a peak or an ordinary post, one less than the mark at a saddle
+unfoldable pub runsFor : ℕ → ℕ
+runsFor m = cond (ltb m 3) (one (not (eqb m 2))) (m - 1)

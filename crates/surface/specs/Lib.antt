@@ -24,11 +24,13 @@ pub mod Plot
 pub mod Edges
 pub mod Marks
 pub mod Flags
+pub mod Codes
 pub mod Lines
 pub mod SurveyFile
 pub mod Refusals
 pub mod Calls
 pub mod Series
 pub mod Demand
+pub mod Grounds
 pub mod Bench
 pub mod Lister

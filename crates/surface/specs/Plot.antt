@@ -71,6 +71,11 @@ unfoldable pub below : Plot → ℕ → ℕ → Bool
 below pl p q =
     not (eqb q virtualPit) && (eqb p virtualPit || (ltZ (height pl p) (height pl q) || (not (ltZ (height pl q) (height pl p)) && ltb p q)))
 
+-- two posts have one height, so that the order between them is a tie's; the virtual pit has none
+abbrev pub tied : Plot → ℕ → ℕ → Bool
+tied pl p q =
+    not (eqb p virtualPit || eqb q virtualPit) && not (ltZ (height pl p) (height pl q) || ltZ (height pl q) (height pl p))
+
 -- an order the other way round: what is stated of "below" in one holds of "above" in the other
 abbrev pub reversed : (ℕ → ℕ → Bool) → ℕ → ℕ → Bool
 reversed lower p q = lower q p

@@ -108,6 +108,16 @@ module _ (pl : Plot) where
       ∷ row6 new
       ∷ [])
 
+  unfoldable pub ringVerdict : ℕ → List ℕ → Answer
+  ringVerdict post ring =
+      verdict
+      (row1 pl.rows pl.columns
+      ∷ row2 pl
+      ∷ row3 ring 8
+      ∷ row4 isHeight pl.heights
+      ∷ row5 pl post
+      ∷ [])
+
   unfoldable pub nextVerdict : ℕ → Answer
   nextVerdict post = verdict (row1 pl.rows pl.columns ∷ row2 pl ∷ row4 isHeight pl.heights ∷ row5 pl post ∷ [])
 

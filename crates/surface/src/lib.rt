@@ -13,8 +13,13 @@ pub const HIGHEST: i32 = 1000000;
 // The virtual pit, as lists and answers have it.
 pub const VIRTUAL_PIT: usize = 65535;
 
-// The first mark of a saddle.
+// The mark of a pit, and the first mark of a saddle.
+pub const PIT: u8 = 2;
+
 pub const SADDLE: u8 = 3;
+
+// The bytes of a ring's list.
+pub const RING_LENGTH: usize = 8;
 
 // Which way a walk goes: down to a pit or up to a peak.
 pub const DOWN: bool = false;
@@ -42,6 +47,15 @@ pub struct Counts {
     pub peaks: u32,
     pub pits: u32,
     pub saddles: u32,
+}
+
+// sn_ring
+#[repr(C)]
+pub struct RingMark {
+    pub code: u32,
+    pub place: u32,
+    pub k: u32,
+    pub mark: u32,
 }
 
 // sn_next_down, sn_next_up

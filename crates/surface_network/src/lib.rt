@@ -3,10 +3,11 @@ use surface::Answer;
 use surface::Counts;
 use surface::Entries;
 use surface::Next;
+use surface::RingMark;
 use surface::Size;
 ghost use mathlib.Core.Path.{_≡_};
 ghost use Rattle.surface.specs.Plot.{plot};
-ghost use Rattle.surface.specs.Calls.{surveyAnswer, surveyMarks, reshootAnswer, reshootHeights, reshootMarks, nextDownAnswer, nextUpAnswer, thalwegAnswer, thalwegList, ridgeAnswer, ridgeList, partsAnswer, partsDales, partsHills, readAnswer, readHeights, writeAnswer, writeFile};
+ghost use Rattle.surface.specs.Calls.{surveyAnswer, surveyMarks, reshootAnswer, reshootHeights, reshootMarks, ringAnswer, ringList, nextDownAnswer, nextUpAnswer, thalwegAnswer, thalwegList, ridgeAnswer, ridgeList, partsAnswer, partsDales, partsHills, readAnswer, readHeights, writeAnswer, writeFile};
 
 #[no_mangle]
 pub extern "C" fn sn_survey(rows: u32, columns: u32, heights: &[i32], marks: &mut [u8]) -> Counts
@@ -30,6 +31,20 @@ pub extern "C" fn sn_reshoot(
     ensures { λ _. ⌜ now (marks .exit) ≡ reshootMarks (plot rows columns (now (heights .entry))) (now (marks .entry)) post height ⌝ }
 {
     survey::reshoot(rows, columns, heights, marks, post, height)
+}
+
+#[no_mangle]
+pub extern "C" fn sn_ring(
+    rows: u32,
+    columns: u32,
+    heights: &[i32],
+    post: u32,
+    ring: &mut [u8],
+) -> RingMark
+    ensures { λ r. ⌜ r ≡ ringAnswer (plot rows columns (now (heights .entry))) post (now (ring .entry)) ⌝ }
+    ensures { λ _. ⌜ now (ring .exit) ≡ ringList (plot rows columns (now (heights .entry))) post (now (ring .entry)) ⌝ }
+{
+    ring::ring(rows, columns, heights, post, ring)
 }
 
 #[no_mangle]

@@ -1,11 +1,10 @@
 -- The virtual pit is below every post; posts are compared by height, then by number.
-use Prim.Native.Nat.{ℕ, _<_}
+use Prim.Native.Nat.{ℕ}
 use mathlib.Core.Path.{_≡_, sym, _∙_, ap}
-use mathlib.Core.Logic.{⊎-elim}
 use native.Mathlib.Omega.{arith}
-use Rattle.surface.specs.Plot.{Plot, plotOf, below, virtualPit, Vertex, PostOf}
+use Rattle.surface.specs.Plot.{Plot, plotOf, below, virtualPit, PostOf}
 use Rattle.surface.proofs.OfPlots.HeightOrder.{pit-below, not-below-pit}
-use Rattle.order.proofs.Level.{later-below}
+use Rattle.order.proofs.Level.{vertex-post, later-below}
 use Rattle.order.proofs.is_below.Statement.{statement}
 use Rattle.order.proofs.is_below.Tie as tie
 
@@ -24,18 +23,14 @@ returns-2 c =
     sym (ap (λ (p : ℕ). below pl p (a .q)) (c .if2 .taken) ∙ pit-below pl (a .q) (c .before .if1 .left))
 
 -- both are posts
-post : {n p : ℕ} → Vertex n p → (p ≡ 65535 → ⊥) → p < n
-unfolding virtualPit
-post {n} {p} v h = ⊎-elim (λ (k : p < n). k) (λ (k : p ≡ virtualPit). absurd (h k)) v
-
 abbrev asked : tie.Else2 → Plot
 asked c = let a = c .before .before .args in plotOf (a .grid) (a .heights .now)
 
 first : (c : tie.Else2) → PostOf (asked c) (c .before .before .args .p)
-first c = let s = c .before .before in record { valid = s .pre .0; post = post (s .pre .1) (c .if2 .left) }
+first c = let s = c .before .before in record { valid = s .pre .0; post = vertex-post (s .pre .1) (c .if2 .left) }
 
 second : (c : tie.Else2) → PostOf (asked c) (c .before .before .args .q)
-second c = let s = c .before .before in record { valid = s .pre .0; post = post (s .pre .2) (c .before .if1 .left) }
+second c = let s = c .before .before in record { valid = s .pre .0; post = vertex-post (s .pre .2) (c .before .if1 .left) }
 
 earlier-is-below-requires : tie.Need-earlier-is-below-requires
 earlier-is-below-requires c κs = (second (c .before), c .if3 .taken)

@@ -1,9 +1,11 @@
 -- The ring of a post taken apart: its eight places, and which vertex is a member by which of them.
-use Prim.Native.Nat.{ℕ, _+_, _-_}
+use Prim.Native.Nat.{ℕ, _+_, _-_, _≤_}
+use native.Mathlib.Omega.{arith}
 use mathlib.Core.Path.{_≡_, refl}
 use mathlib.Core.Bool.{Bool, true, false, cond, not, _&&_, _||_, false≢true, or-true}
 use mathlib.Core.List.{List, [], _∷_, List·Memᴰ, List·Memᴰ·head, List·Memᴰ·append-cases, List·Memᴰ·eq-of-singleton, List·Memᴰ·not-nil, Memᴰ·append-left, Memᴰ·append-right}
 use mathlib.Core.Logic.{_↔_, _⊎_, inl, inr, ⊎-elim}
+use lib.ListN.{length, length-append}
 use borrow.Author.Tests.{not-true}
 use Rattle.surface.specs.Lists.{keep}
 use Rattle.surface.specs.Plot.{virtualPit}
@@ -34,6 +36,16 @@ unfolding members
 among-members [] h = absurd h
 among-members (s ∷ l) (inl h) = Memᴰ·append-left (members l) (one-keep (s .taken) (s .member) (h .0) (h .1))
 among-members (s ∷ l) (inr h) = Memᴰ·append-right (keep (s .taken) (s .member)) (among-members l h)
+
+-- there are no more members than places
+members-short : (l : List Place) → length (members l) ≤ length l
+unfolding members
+members-short [] = omega arith
+members-short (s ∷ l) = rw (length-append) (go (s .taken) (members-short l))
+  where
+    go : (b : Bool) → length (members l) ≤ length l → length (keep b (s .member)) + length (members l) ≤ length (s ∷ l)
+    go true h = omega arith
+    go false h = omega arith
 
 -- what a taken diagonal place says
 pub diagonal : (a b d : Bool) → (not a && (not b && d)) ≡ true → (a ≡ false) × (b ≡ false) × (d ≡ true)
@@ -100,3 +112,8 @@ module _ (rows columns : ℕ) (falls : ℕ → Bool) where
   pub ring-place : (p q : ℕ) → List·Memᴰ q (ring rows columns falls p) ↔ Stands p q
   unfolding ring
   ring-place p q = (λ m. among-place p q (members-among (places rows columns falls p) m), λ h. among-members (places rows columns falls p) (place-among p q h))
+
+  -- and eight places
+  pub ring-short : (p : ℕ) → length (ring rows columns falls p) ≤ 8
+  unfolding ring places
+  ring-short p = members-short (places rows columns falls p)

@@ -5,14 +5,14 @@ use native.Mathlib.Omega.{arith}
 use mathlib.Core.Path.{_≡_, refl, sym, _∙_, ap}
 use mathlib.Core.Bool.{Bool, true, false, cond, not, _&&_, _||_, true≢false}
 use mathlib.Core.Logic.{_↔_}
-use mathlib.Core.List.{List, [], _∷_}
+use mathlib.Core.List.{List, [], _∷_, map}
 use lib.Dec.{eqb}
 use lib.ListN.{length, length-append}
-use borrow.Author.Tests.{eqb-false, ne-eqb}
+use borrow.Author.Tests.{eqb-true, eqb-false, ne-eqb, le-ltb}
 use Rattle.surface.specs.Lists.{keep, any, all, lastOr, one}
 use Rattle.surface.specs.Edges.{runs, runsFrom}
 use Rattle.surface.specs.Marks.{markFor}
-use Rattle.surface.specs.Flags.{markBy}
+use Rattle.surface.specs.Flags.{markBy, runsFor}
 use Rattle.surface.proofs.General.Bools.{and-left, or-left, either}
 
 -- how many runs start in a list, `before` being the side of what stands before it
@@ -41,6 +41,12 @@ markBy-zero a k h = rw h
 markBy-suc : (a : Bool) (k : ℕ) → (k ≡ 0 → ⊥) → markBy a k ≡ cond (eqb k 1) 0 (k + 1)
 unfolding markBy
 markBy-suc a k h = rw (ne-eqb k 0 h)
+
+runsFor-both : (k : ℕ) → (k ≡ 0 → ⊥) → k ≡ runsFor (markFor true true k)
+unfolding runsFor markFor
+runsFor-both k h =
+    either (eqb k 1) (λ e. rw e (eqb-true k 1 e))
+    (λ e. let n = eqb-false k 1 e in rw (e, le-ltb (k + 1) 3 (omega arith)) (omega arith))
 
 length-keep : {A : Type 0} (b : Bool) (x : A) → length (keep b x) ≡ one b
 length-keep true x = refl
@@ -132,6 +138,10 @@ module _ (s : ℕ → Bool) where
   unfolding runs circle
   length-runs x l h = rw h (length-runsFrom (s (lastOr x l)) (x ∷ l) (x ∷ l))
 
+  one-run : (x : ℕ) (l : List ℕ) → all s (x ∷ l) ≡ true → length (runs s (x ∷ l)) ≡ 1
+  unfolding runs
+  one-run x l h = rw h
+
   circle-positive : (x : ℕ) (l : List ℕ) → all s (x ∷ l) ≡ false → any s (x ∷ l) ≡ true → circle x l ≡ 0 → ⊥
   unfolding circle lastSide
   circle-positive x l a b e = go (s (lastOr x l)) (lastSide-lastOr x l) e
@@ -194,6 +204,38 @@ upper-lower-runs s x l h k =
     let n : all (λ q. not (s q)) (x ∷ l) ≡ false = all-not s (x ∷ l) ∙ ap not k in
     rw (length-runs s x l h, length-runs (λ q. not (s q)) x l n) (sym (circle-stops s x l))
 
+-- a circle read through codes: the sides are told by `s` of the codes
+module _ (f : ℕ → ℕ) (s t : ℕ → Bool) (same : (q : ℕ) → s (f q) ≡ t q) where
+  pub all-coded : (l : List ℕ) → all s (map f l) ≡ all t l
+  unfolding all
+  all-coded [] = refl
+  all-coded (x ∷ l) = rw (same x, all-coded l)
+
+  pub any-coded : (l : List ℕ) → any s (map f l) ≡ any t l
+  unfolding any
+  any-coded [] = refl
+  any-coded (x ∷ l) = rw (same x, any-coded l)
+
+  starts-coded : (b : Bool) (l : List ℕ) → starts s b (map f l) ≡ starts t b l
+  unfolding starts
+  starts-coded b [] = refl
+  starts-coded b (x ∷ l) = rw (same x, starts-coded (t x) l)
+
+  last-coded : (x : ℕ) (l : List ℕ) → s (lastOr (f x) (map f l)) ≡ t (lastOr x l)
+  unfolding lastOr
+  last-coded x [] = same x
+  last-coded x (y ∷ l) = last-coded y l
+
+  pub runs-coded : (l : List ℕ) → length (runs s (map f l)) ≡ length (runs t l)
+  unfolding runs
+  runs-coded [] = refl
+  runs-coded (x ∷ l) = rw (all-coded (x ∷ l)) (go (all t (x ∷ l)))
+    where
+      go : (b : Bool) → length (cond b (map f (x ∷ l) ∷ []) (runsFrom s (s (lastOr (f x) (map f l))) (map f (x ∷ l)) (map f (x ∷ l))))
+          ≡ length (cond b ((x ∷ l) ∷ []) (runsFrom t (t (lastOr x l)) (x ∷ l) (x ∷ l)))
+      go true = refl
+      go false = rw (length-runsFrom s, length-runsFrom t, last-coded x l) (starts-coded (t (lastOr x l)) (x ∷ l))
+
 -- a pit has no member below and a peak none above, and no other ring has their marks
 module _ (s : ℕ → Bool) (x : ℕ) (l : List ℕ) where
   abbrev markOf : ℕ
@@ -245,3 +287,14 @@ module _ (s : ℕ → Bool) (x : ℕ) (l : List ℕ) where
 
       from : all s (x ∷ l) ≡ true → markOf ≡ 1
       from h = rw h
+
+  -- the lower runs are told by the mark
+  pub runs-for : length (runs s (x ∷ l)) ≡ runsFor markOf
+  unfolding runsFor markFor circle
+  runs-for = go (all s (x ∷ l)) (any s (x ∷ l)) refl refl
+    where
+      go : (a b : Bool) → all s (x ∷ l) ≡ a → any s (x ∷ l) ≡ b
+          → length (runs s (x ∷ l)) ≡ runsFor (markFor (not a) b (length (runs s (x ∷ l))))
+      go true b e f = one-run s x l e
+      go false false e f = length-runs s x l e ∙ none-starts s (s (lastOr x l)) (x ∷ l) f
+      go false true e f = runsFor-both _ (λ z. circle-positive s x l e f (sym (length-runs s x l e) ∙ z))

@@ -7,11 +7,12 @@ use mathlib.Core.Bool.{Bool, true, false, _||_, true≢false}
 use mathlib.Core.Logic.{_↔_, ⊎-elim}
 use mathlib.Core.List.{List, [], _∷_, _++_, map, map-append, append-nil, List·Memᴰ, List·Memᴰ·head, List·Memᴰ·tail, List·Memᴰ·cases-cons, List·Memᴰ·not-nil, List·Memᴰ·append-cases, List·Memᴰ·eq-of-singleton, Memᴰ·append-left, Memᴰ·append-right}
 use native.Mathlib.Decide.{ℕ-discrete}
-use lib.ListN.{length, getD, drop, set, length-append, length-drop, List·getD-append}
-use lib.Seq.{getD-append-seam, drop-cons, drop-length, append-snoc, set-at}
+use lib.ListN.{length, getD, drop, set, replicate, length-append, length-drop, length-replicate, List·getD-append}
+use lib.Seq.{getD-append-seam, drop-cons, drop-length, append-snoc, set-at, ext-getD}
 use lib.Dec.{eqb}
 use borrow.Author.Tests.{eqb-true, eqb-false}
-use Rattle.surface.specs.Lists.{listOf, any, one, count, total}
+use Rattle.surface.specs.Lists.{listOf, filter, any, all, one, count, total}
+use Rattle.surface.proofs.General.Bools.{and-left, and-right}
 use Rattle.surface.proofs.General.Sum.{sum}
 
 pub length-listOf : {A : Type 0} (f : ℕ → A) (n : ℕ) → length (listOf f n) ≡ n
@@ -120,3 +121,38 @@ pub map-listOf : {A B : Type 0} (g : A → B) (f : ℕ → A) (n : ℕ) → map 
 unfolding listOf
 map-listOf g f zero = refl
 map-listOf g f (suc n) = rw (map-append, map-listOf g f n)
+
+-- an element at a place is a member, and is mapped where its list is
+pub getD-member : (l : List ℕ) (i d : ℕ) → i < length l → List·Memᴰ (getD l i d) l
+getD-member [] i d h = absurd (omega arith)
+getD-member (x ∷ l) zero d h = List·Memᴰ·head refl
+getD-member (x ∷ l) (suc i) d h = List·Memᴰ·tail (getD-member l i d (omega arith))
+
+pub getD-mapped : {A B : Type 0} (f : A → B) (l : List A) (i : ℕ) (d : A) (e : B) → i < length l → getD (map f l) i e ≡ f (getD l i d)
+getD-mapped f [] i d e h = absurd (omega arith)
+getD-mapped f (x ∷ l) zero d e h = refl
+getD-mapped f (x ∷ l) (suc i) d e h = getD-mapped f l i d e (omega arith)
+
+-- a list filled up with d
+padded-at : {A : Type 0} (l : List A) (m i : ℕ) (d : A) → getD (l ++ replicate m d) i d ≡ getD l i d
+padded-at [] zero i d = refl
+padded-at [] (suc m) zero d = refl
+padded-at [] (suc m) (suc i) d = padded-at [] m i d
+padded-at (x ∷ l) m zero d = refl
+padded-at (x ∷ l) m (suc i) d = padded-at l m i d
+
+pub listOf-padded : {A : Type 0} (l : List A) (n : ℕ) (d : A) → length l ≤ n → listOf (λ i. getD l i d) n ≡ l ++ replicate (n - length l) d
+listOf-padded l n d h =
+    ext-getD d _ _ (rw (length-listOf, length-append, length-replicate) (omega arith))
+    (λ i k. getD-listOf (λ i. getD l i d) n i d (rw (length-listOf (λ i. getD l i d) n) at k) ∙ sym (padded-at l (n - length l) i d))
+
+-- what is left of it by a test that its elements pass and d fails
+filter-none : {A : Type 0} (s : A → Bool) (m : ℕ) (d : A) → s d ≡ false → filter s (replicate m d) ≡ []
+unfolding filter
+filter-none s zero d h = refl
+filter-none s (suc m) d h = rw (h, filter-none s m d h)
+
+pub filter-padded : {A : Type 0} (s : A → Bool) (l : List A) (m : ℕ) (d : A) → all s l ≡ true → s d ≡ false → filter s (l ++ replicate m d) ≡ l
+unfolding filter all
+filter-padded s [] m d h k = filter-none s m d k
+filter-padded s (x ∷ l) m d h k = rw (and-left (s x) (all s l) h, filter-padded s l m d (and-right (s x) (all s l) h) k)

@@ -9,11 +9,11 @@ use lib.Dec.{ltb, eqb}
 use lib.IntN.{ℤ}
 use lib.ListN.{length, getD}
 use Rattle.surface.specs.Lists.{firstNot}
-use Rattle.surface.specs.Plot.{Plot, posts, isHeight, Sides, Valid}
+use Rattle.surface.specs.Plot.{Plot, posts, isHeight, Sides, Valid, PostOf}
 use Rattle.surface.specs.Marks.{markAt}
 use Rattle.surface.specs.Lines.{Descent, runsOf, line}
 use Rattle.surface.specs.SurveyFile.{statedCount, countFor, fileSize, isTenths, tenthsOf}
-use Rattle.surface.specs.Refusals.{accepted, verdict, row1, row2, row4, surveyVerdict, reshootVerdict, lineVerdict, partsVerdict, readVerdict, writeVerdict}
+use Rattle.surface.specs.Refusals.{accepted, verdict, row1, row2, row4, surveyVerdict, reshootVerdict, ringVerdict, lineVerdict, partsVerdict, readVerdict, writeVerdict}
 use Rattle.surface.proofs.General.Bools.{or-left, or-right}
 use Rattle.surface.proofs.General.FirstNot.{firstNot-le, ranged-all, all-firstNot}
 use Rattle.surface.proofs.AnyOrder.Grid.{test-sides, sides-test}
@@ -60,6 +60,20 @@ module _ (pl : Plot) where
         marksSize = equal _ _ (row 3);
         postIn = ltb-true post (posts pl) (not-false _ (row 5));
         inRange = not-false (isHeight new) (row 6);
+      }
+
+  -- a ring of a post, into eight bytes
+  pub record ForRing (post : ℕ) (ring : List ℕ) : Type 0 where
+    pub postOf : PostOf pl post
+    pub size : length ring ≡ 8
+
+  pub ring-valid : (post : ℕ) (ring : List ℕ) → ringVerdict pl post ring .code ≡ 0 → ForRing post ring
+  unfolding ringVerdict
+  ring-valid post ring e =
+      let row = passed _ tt e in
+      record {
+        postOf = record { valid = valid (row 1) (row 2) (row 4); post = ltb-true post (posts pl) (not-false _ (row 5)) };
+        size = equal _ _ (row 3);
       }
 
   -- a line of a saddle, one of its runs, and a list that has room

@@ -1,0 +1,20 @@
+-- Case by case as in `runsFor`.
+use native.Mathlib.Omega.{arith}
+use mathlib.Core.Path.{_≡_, refl, sym, _∙_}
+use borrow.Author.Needs.{needs}
+use borrow.Author.Tests.{lt-ltb, le-ltb}
+use Rattle.surface.specs.Flags.{runsFor}
+use Rattle.surface.proofs.General.Bools.{flag}
+use Rattle.ring.proofs.runs_of.Statement.{statement}
+use Rattle.ring.proofs.runs_of.Tie as tie
+
+returns : tie.Need-returns
+unfolding runsFor
+returns c = rw (lt-ltb _ 3 (c .if1 .taken), flag _ .0)
+
+returns-2 : tie.Need-returns-2
+unfolding runsFor
+returns-2 c = rw (le-ltb _ 3 (c .if1 .left))
+
+pub runs-of-spec : {M : Type 1} → statement M
+runs-of-spec = tie.close (tie.spec (search needs) returns (search needs) returns-2)

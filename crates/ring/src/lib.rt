@@ -1,0 +1,72 @@
+// The call for the ring behind a mark.
+mod codes;
+
+use codes::put_codes;
+use limits::plot_verdict;
+use limits::post_verdict;
+use post::mark::mark_at;
+use surface::Answer;
+use surface::Grid;
+use surface::PIT;
+use surface::RING_LENGTH;
+use surface::RingMark;
+use surface::SADDLE;
+ghost use mathlib.Core.Path.{_≡_};
+ghost use Rattle.surface.specs.Plot.{plot};
+ghost use Rattle.surface.specs.Flags.{runsFor};
+ghost use Rattle.surface.specs.Refusals.{ringVerdict};
+ghost use Rattle.surface.specs.Calls.{ringAnswer, ringList};
+
+// Rows 1 to 5 of the table.
+fn ring_verdict(rows: u32, columns: u32, heights: &[i32], post: u32, ring: &[u8]) -> Answer
+    ensures { λ r. ⌜ r ≡ ringVerdict (plot rows columns (now (heights .entry))) post (now (ring .entry)) ⌝ }
+{
+    let size = plot_verdict(rows, columns, heights);
+    if size.code != 0 {
+        return size;
+    }
+    if ring.len() != RING_LENGTH {
+        return Answer { code: 3, place: 0 };
+    }
+    post_verdict(rows, columns, heights, post)
+}
+
+// The lower runs of a post that has this mark.
+fn runs_of(mark: u8) -> u32
+    ensures { λ r. ⌜ r ≡ runsFor mark ⌝ }
+{
+    if mark < SADDLE {
+        return (mark != PIT) as u32;
+    }
+    mark as u32 - 1
+}
+
+// Gives k and the mark of a post, and writes how each member of its ring lies to it. Refused: the list stays as it was.
+pub fn ring(rows: u32, columns: u32, heights: &[i32], post: u32, ring: &mut [u8]) -> RingMark
+    ensures { λ r. ⌜ r ≡ ringAnswer (plot rows columns (now (heights .entry))) post (now (ring .entry)) ⌝ }
+    ensures { λ _. ⌜ now (ring .exit) ≡ ringList (plot rows columns (now (heights .entry))) post (now (ring .entry)) ⌝ }
+{
+    let refusal = ring_verdict(rows, columns, heights, post, ring);
+    let code = refusal.code;
+    if code != 0 {
+        return RingMark {
+            code,
+            place: refusal.place,
+            k: 0,
+            mark: 0,
+        };
+    }
+    let grid = Grid {
+        rows: rows as usize,
+        columns: columns as usize,
+    };
+    let p = post as usize;
+    put_codes(heights, grid, p, ring);
+    let mark = mark_at(heights, grid, p);
+    RingMark {
+        code: 0,
+        place: 0,
+        k: runs_of(mark),
+        mark: mark as u32,
+    }
+}

@@ -1,0 +1,77 @@
+-- The outcome of a ring call, by whether it was accepted; and what an accepted one shows.
+use Prim.Native.Nat.{ℕ, _-_, _<_}
+use native.Mathlib.Omega.{arith}
+use mathlib.Core.Path.{_≡_, refl, sym, _∙_, ap}
+use mathlib.Core.List.{List, [], _∷_, _++_}
+use borrow.Author.Tests.{ne-eqb}
+use lib.Dec.{ltb}
+use lib.ListN.{length, getD, replicate}
+use Rattle.surface.specs.Plot.{Plot, posts, PostOf}
+use Rattle.surface.specs.Marks.{markAt, marksOf}
+use Rattle.surface.specs.Flags.{runsFor}
+use Rattle.surface.specs.Codes.{codesOf, ringBytes, runsBelow}
+use Rattle.surface.specs.Refusals.{ringVerdict}
+use Rattle.surface.specs.Calls.{surveyAnswer, surveyMarks, ringAnswer, ringList}
+use Rattle.surface.specs.Grounds.{codesIn, Grounds, RingGrounds}
+use Rattle.surface.specs.declared.Answer.{Answer}
+use Rattle.surface.proofs.General.ListOf.{length-listOf, getD-listOf, listOf-padded, filter-padded}
+use Rattle.surface.proofs.OfPlots.Codes.{codes-some, codes-number, codes-short, codes-runs, codes-mark, mark-runs}
+use Rattle.surface.proofs.OfCalls.Verdicts.{leads-passed, none-left}
+use Rattle.surface.proofs.OfCalls.Accepted.{ring-valid, valid-survey}
+use Rattle.surface.proofs.OfCalls.MarkCalls.{survey-filled}
+
+module _ (pl : Plot) (post : ℕ) (ring : List ℕ) where
+  -- a refused call returns its number and place, and 0 for each other value, and leaves the bytes
+  pub ring-refused : (ringVerdict pl post ring .code ≡ 0 → ⊥)
+      → (ringAnswer pl post ring ≡ record { code = ringVerdict pl post ring .code; place = ringVerdict pl post ring .place; k = 0; mark = 0 })
+      × (ringList pl post ring ≡ ring)
+  unfolding ringAnswer ringList
+  ring-refused n = rw (ne-eqb (ringVerdict pl post ring .code) 0 n) (refl, refl)
+
+  -- an accepted one returns 0, 0, k and the mark, and writes the codes
+  pub ring-served : ringVerdict pl post ring .code ≡ 0
+      → (ringAnswer pl post ring ≡ record { code = 0; place = 0; k = runsBelow pl post; mark = markAt pl post }) × (ringList pl post ring ≡ ringBytes pl post)
+  unfolding ringVerdict ringAnswer ringList
+  ring-served e = rw (leads-passed (_ ∷ _ ∷ _ ∷ _ ∷ _ ∷ []) [] tt e, none-left) (refl, refl)
+
+  answered : ringAnswer pl post ring .code ≡ 0 → ringVerdict pl post ring .code ≡ 0
+  unfolding ringAnswer
+  answered e = e
+
+module _ (pl : Plot) (p : ℕ) where
+  -- the eight bytes are the codes and then zeros
+  bytes-are : ringBytes pl p ≡ codesOf pl p ++ replicate (8 - length (codesOf pl p)) 0
+  unfolding ringBytes
+  bytes-are = listOf-padded (codesOf pl p) 8 0 (codes-short pl p)
+
+  bytes-codes : codesIn (ringBytes pl p) ≡ codesOf pl p
+  bytes-codes = rw bytes-are (filter-padded (λ c. ltb 0 c) (codesOf pl p) (8 - length (codesOf pl p)) 0 (codes-some pl p) refl)
+
+  module _ (post : PostOf pl p) where
+    -- a survey writes the mark
+    survey-mark : (marks : List ℕ) → length marks ≡ posts pl
+        → (surveyAnswer pl marks .code ≡ 0) × (p < length (surveyMarks pl marks)) × (getD (surveyMarks pl marks) p 0 ≡ markAt pl p)
+    unfolding surveyAnswer marksOf
+    survey-mark marks n =
+        let e = ap (λ (v : Answer). v .code) (valid-survey pl (post .valid) marks n) in
+        rw (survey-filled pl marks e) (e, rw (length-listOf) (post .post), getD-listOf (markAt pl) (posts pl) p 0 (post .post))
+
+    grounds : Grounds pl p (runsBelow pl p) (markAt pl p) (ringBytes pl p)
+    unfolding runsFor
+    grounds =
+        record {
+          surveyed = survey-mark;
+          codes = bytes-codes;
+          number = rw bytes-codes (codes-number pl p);
+          front = rw bytes-codes bytes-are;
+          runsOfCodes = rw bytes-codes (codes-runs pl p);
+          atPeak = λ e. mark-runs pl p post ∙ ap runsFor e;
+          atPit = λ e. mark-runs pl p post ∙ ap runsFor e;
+          marked = rw bytes-codes (codes-mark pl p post);
+        }
+
+pub ring-grounds : RingGrounds
+ring-grounds pl post lent e =
+    let v = answered pl post lent e in
+    let s = ring-served pl post lent v in
+    rw (s .0, s .1) (grounds pl post (ring-valid pl post lent v .postOf))

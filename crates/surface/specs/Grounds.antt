@@ -1,0 +1,45 @@
+-- What an accepted ring call shows, over the outcomes of the calls: the grounds of a mark.
+use Prim.Native.Nat.{ℕ, _-_, _<_}
+use mathlib.Core.Path.{_≡_}
+use mathlib.Core.Bool.{Bool, not}
+use mathlib.Core.List.{List, _++_}
+use lib.Dec.{leb, ltb}
+use lib.ListN.{length, getD, replicate}
+use Rattle.surface.specs.Lists.{filter, any, all}
+use Rattle.surface.specs.Plot.{Plot, posts}
+use Rattle.surface.specs.Edges.{ringOf, runs}
+use Rattle.surface.specs.Marks.{markFor}
+use Rattle.surface.specs.Codes.{codesOf}
+use Rattle.surface.specs.Calls.{surveyAnswer, surveyMarks, ringAnswer, ringList}
+
+-- the codes in a list: those that are not zero
+abbrev pub codesIn : List ℕ → List ℕ
+codesIn bytes = filter (λ c. ltb 0 c) bytes
+
+-- 3 and 4 say that a member is below, 1 and 2 that it is above
+abbrev pub saysBelow : ℕ → Bool
+saysBelow c = leb 3 c
+
+-- of a post, in the outcome of the call: its answer's k and mark, and the eight bytes that it left
+module _ (pl : Plot) (post : ℕ) (k mark : ℕ) (bytes : List ℕ) where
+  pub record Grounds : Type 0 where
+    -- the mark is the one that a survey of the same heights writes at that post, whatever marks are lent to it
+    pub surveyed : (marks : List ℕ) → length marks ≡ posts pl
+        → (surveyAnswer pl marks .code ≡ 0) × (post < length (surveyMarks pl marks)) × (getD (surveyMarks pl marks) post 0 ≡ mark)
+    -- the codes are those of the ring, in its order; they number its members, and are at the front, with zeros after
+    pub codes : codesIn bytes ≡ codesOf pl post
+    pub number : length (codesIn bytes) ≡ length (ringOf pl post)
+    pub front : bytes ≡ codesIn bytes ++ replicate (8 - length (codesIn bytes)) 0
+    -- k is the number of lower runs of the codes read as a circle: at a peak 1, at a pit 0
+    pub runsOfCodes : k ≡ length (runs saysBelow (codesIn bytes))
+    pub atPeak : mark ≡ 1 → k ≡ 1
+    pub atPit : mark ≡ 2 → k ≡ 0
+    -- and the mark follows from them: whether some member is above, whether some is below, and k
+    pub marked : mark ≡ markFor (not (all saysBelow (codesIn bytes))) (any saysBelow (codesIn bytes)) k
+
+-- of every accepted call, whatever the eight bytes that were lent to it
+abbrev pub RingGrounds : Type 0
+RingGrounds =
+    (pl : Plot) (post : ℕ) (lent : List ℕ)
+    → ringAnswer pl post lent .code ≡ 0
+    → Grounds pl post (ringAnswer pl post lent .k) (ringAnswer pl post lent .mark) (ringList pl post lent)
