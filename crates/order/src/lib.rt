@@ -60,10 +60,10 @@ pub fn is_tied(heights: &[i32], grid: Grid, p: usize, q: usize) -> bool
     requires { ⌜ PostOf (plotOf grid (now heights)) p × Vertex (posts (plotOf grid (now heights))) q ⌝ }
     ensures { λ r. ⌜ r ≡ tied (plotOf grid (now (heights .entry))) p q ⌝ }
 {
-    if q == VIRTUAL_PIT {
-        return false;
+    if q != VIRTUAL_PIT {
+        return !(is_less(heights, p, q) | is_less(heights, q, p));
     }
-    !(is_less(heights, p, q) | is_less(heights, q, p))
+    false
 }
 
 // p is below q, or above it where `up`.

@@ -1,15 +1,19 @@
 -- docs/SPECIFICATION.md, "Codes of a ring".
 use Prim.Native.Nat.{ℕ}
-use mathlib.Core.Bool.{cond}
+use mathlib.Core.Bool.{Bool, cond}
 use mathlib.Core.List.{List, map}
 use lib.ListN.{length, getD}
 use Rattle.surface.specs.Lists.{listOf}
 use Rattle.surface.specs.Plot.{Plot, below, tied}
 use Rattle.surface.specs.Edges.{ringOf, lowerRuns}
 
--- how member q of p's ring lies to p: 1 above by height, 2 above by tie, 3 below by height, 4 below by tie; the virtual pit is below by height
+-- 1 above by height, 2 above by tie, 3 below by height, 4 below by tie
+abbrev pub codeFor : Bool → Bool → ℕ
+codeFor isBelow byTie = cond isBelow (cond byTie 4 3) (cond byTie 2 1)
+
+-- how member q of p's ring lies to p; the virtual pit is below by height
 unfoldable pub memberCode : Plot → ℕ → ℕ → ℕ
-memberCode pl p q = cond (below pl q p) (cond (tied pl p q) 4 3) (cond (tied pl p q) 2 1)
+memberCode pl p q = codeFor (below pl q p) (tied pl p q)
 
 -- the codes of p's ring, in ring order
 unfoldable pub codesOf : Plot → ℕ → List ℕ

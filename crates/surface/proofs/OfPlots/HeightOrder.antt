@@ -3,12 +3,12 @@ use Prim.Native.Nat.{ℕ, _<_}
 use native.Mathlib.Omega.{arith}
 use mathlib.Core.Path.{_≡_, refl, sym, _∙_, ap}
 use mathlib.Core.Logic.{_⊎_, ⊎-elim, inl, inr}
-use mathlib.Core.Bool.{Bool, true, false, not, _&&_, _||_, true≢false}
+use mathlib.Core.Bool.{Bool, true, false, not, _&&_, _||_, true≢false, or-true}
 use lib.Dec.{ltb, eqb}
 use lib.IntN.{ℤ, pos, negsuc}
 use lib.Signed.{ltZ}
 use borrow.Author.Tests.{ltb-true, ltb-false, lt-ltb, le-ltb, eqb-true, eq-eqb, ne-eqb}
-use Rattle.surface.specs.Plot.{Plot, height, virtualPit, below}
+use Rattle.surface.specs.Plot.{Plot, height, virtualPit, below, tied}
 use Rattle.surface.proofs.AnyOrder.Order.{StrictTotal}
 
 -- whole numbers
@@ -105,6 +105,10 @@ module _ (pl : Plot) where
   unfolding below
   below-lex p q h k = rw (ne-eqb p virtualPit h, ne-eqb q virtualPit k)
 
+  -- so a post of less height is below
+  pub height-below : (p q : ℕ) → (p ≡ virtualPit → ⊥) → (q ≡ virtualPit → ⊥) → ltZ (height pl p) (height pl q) ≡ true → below pl p q ≡ true
+  height-below p q h k e = rw (below-lex p q h k, e)
+
   -- the virtual pit is below every post
   pub pit-below : (q : ℕ) → (q ≡ virtualPit → ⊥) → below pl virtualPit q ≡ true
   unfolding below
@@ -113,6 +117,14 @@ module _ (pl : Plot) where
   pub not-below-pit : (p : ℕ) → below pl p virtualPit ≡ false
   unfolding below
   not-below-pit p = rw (eq-eqb virtualPit virtualPit refl)
+
+  -- ties are between posts
+  pub tied-level : (p q : ℕ) → (p ≡ virtualPit → ⊥) → (q ≡ virtualPit → ⊥)
+      → tied pl p q ≡ not (ltZ (height pl p) (height pl q) || ltZ (height pl q) (height pl p))
+  tied-level p q h k = rw (ne-eqb p virtualPit h, ne-eqb q virtualPit k)
+
+  pub not-tied-pit : (p : ℕ) → tied pl p virtualPit ≡ false
+  not-tied-pit p = rw (eq-eqb virtualPit virtualPit refl, or-true)
 
   pub below-strict : StrictTotal (below pl)
   unfolding below lex

@@ -2,11 +2,11 @@
 use Prim.Native.Nat.{_+_, _*_}
 use native.Mathlib.Omega.{arith}
 use mathlib.Core.Path.{_≡_, refl}
-use mathlib.Core.Bool.{Bool, true, false, cond}
+use mathlib.Core.Bool.{Bool, true, false}
 use mathlib.Core.Logic.{inl}
 use mir.Val.{boolByte}
 use borrow.Author.Needs.{needs}
-use Rattle.surface.specs.Codes.{memberCode}
+use Rattle.surface.specs.Codes.{codeFor, memberCode}
 use Rattle.surface.proofs.General.Bools.{flag}
 use Rattle.ring.proofs.codes.code_of.Statement.{statement}
 use Rattle.ring.proofs.codes.code_of.Tie as tie
@@ -26,7 +26,7 @@ add-result c = omega (arith, flag (c .before .is-below .result))
 add-result-2 : tie.Need-add-result-2
 add-result-2 c = omega (arith, flag (c .before .is-below .result), flag (c .is-tied .result))
 
-sum : (b t : Bool) → 1 + 2 * boolByte b + boolByte t ≡ cond b (cond t 4 3) (cond t 2 1)
+sum : (b t : Bool) → 1 + 2 * boolByte b + boolByte t ≡ codeFor b t
 sum true true = refl
 sum true false = refl
 sum false true = refl
