@@ -1,6 +1,7 @@
 /*
  * A small panel program: reads a survey file, surveys it, re-shoots a post,
- * follows a walk a post at a time, and shows a saddle with its water line.
+ * follows a walk a post at a time, and shows a saddle with the grounds of its mark
+ * and its water line.
  *
  *     panel plot.svy
  */
@@ -100,6 +101,23 @@ static int walk_down(uint32_t post)
     return 0;
 }
 
+/* The grounds of a post's mark: + above and - below, = where the heights are equal. */
+static int show_ring(uint32_t post)
+{
+    static const char *const signs[] = {"", "+", "+=", "-", "-="};
+    uint8_t ring[SN_RING_LENGTH];
+    size_t i;
+    sn_ring_mark shown = sn_ring(rows, columns, heights, posts, post, ring, SN_RING_LENGTH);
+
+    if (shown.code != SN_OK)
+        return refused("ring", shown.code, shown.place);
+    printf("ring of %lu:", (unsigned long)post);
+    for (i = 0; i < SN_RING_LENGTH && ring[i] != SN_NO_MEMBER; i++)
+        printf(" %s", signs[ring[i]]);
+    printf(", k %lu, mark %lu\n", (unsigned long)shown.k, (unsigned long)shown.mark);
+    return 0;
+}
+
 /* A saddle's water line 0, and the dale and the hill that the saddle is in. */
 static int show_saddle(uint32_t saddle)
 {
@@ -142,5 +160,5 @@ int main(int argc, char **argv)
         return 1;
     for (saddle = 0; saddle < posts && !SN_IS_SADDLE(marks[saddle]); saddle++)
         ;
-    return saddle < posts ? show_saddle(saddle) : 0;
+    return saddle < posts && (show_ring(saddle) || show_saddle(saddle));
 }

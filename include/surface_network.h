@@ -137,7 +137,7 @@ enum {
 #define SN_SADDLE_RUNS(mark) (SN_IS_SADDLE(mark) ? (mark) - 1u : 0u)
 #define SN_MULTIPLICITY(mark) (SN_IS_SADDLE(mark) ? (mark) - 2u : 0u)
 
-/* What sn_ring writes, one byte for each member of a ring: how it lies to the post. */
+/* What sn_ring writes, one byte for each member of a ring: how it stands to the post. */
 enum {
     SN_NO_MEMBER = 0, /* past the ring's last member */
     SN_ABOVE_BY_HEIGHT = 1,
@@ -262,7 +262,7 @@ sn_answer sn_reshoot(uint32_t rows, uint32_t columns,
                      uint32_t post, int32_t height);
 
 /*
- * Ring: the grounds of a post's mark. How each member of its ring lies to it, in the
+ * Ring: the grounds of a post's mark. How each member of its ring stands to it, in the
  * ring's order, with the number of lower runs and the mark.
  *
  * Reads   heights, rows * columns of them.

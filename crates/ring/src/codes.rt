@@ -1,4 +1,4 @@
-// How each member of a ring lies to its post.
+// How each member of a ring stands to its post.
 use order::is_below;
 use order::is_tied;
 use post::ring::Ring;

@@ -41,7 +41,7 @@ fn runs_of(mark: u8) -> u32
     mark as u32 - 1
 }
 
-// Gives k and the mark of a post, and writes how each member of its ring lies to it. Refused: the list stays as it was.
+// Gives k and the mark of a post, and writes how each member of its ring stands to it. Refused: the list stays as it was.
 pub fn ring(rows: u32, columns: u32, heights: &[i32], post: u32, ring: &mut [u8]) -> RingMark
     ensures { λ r. ⌜ r ≡ ringAnswer (plot rows columns (now (heights .entry))) post (now (ring .entry)) ⌝ }
     ensures { λ _. ⌜ now (ring .exit) ≡ ringList (plot rows columns (now (heights .entry))) post (now (ring .entry)) ⌝ }

@@ -11,7 +11,7 @@ use Rattle.surface.specs.Edges.{ringOf, lowerRuns}
 abbrev pub codeFor : Bool → Bool → ℕ
 codeFor isBelow byTie = cond isBelow (cond byTie 4 3) (cond byTie 2 1)
 
--- how member q of p's ring lies to p; the virtual pit is below by height
+-- how member q of p's ring stands to p; the virtual pit is below by height
 unfoldable pub memberCode : Plot → ℕ → ℕ → ℕ
 memberCode pl p q = codeFor (below pl q p) (tied pl p q)
 

@@ -22,29 +22,28 @@ abbrev pub saysBelow : ℕ → Bool
 saysBelow c = leb 3 c
 
 -- what each code says of q as seen from post p
-pub data Lies (pl : Plot) (p q : ℕ) : ℕ → Type 0 where
-  aboveByHeight : q ≢ virtualPit → ltZ (height pl p) (height pl q) ≡ true → Lies pl p q 1
-  aboveByTie : q ≢ virtualPit → height pl q ≡ height pl p → below pl p q ≡ true → Lies pl p q 2
-  belowByHeight : q ≢ virtualPit → ltZ (height pl q) (height pl p) ≡ true → Lies pl p q 3
-  thePit : q ≡ virtualPit → Lies pl p q 3
-  belowByTie : q ≢ virtualPit → height pl q ≡ height pl p → below pl q p ≡ true → Lies pl p q 4
+pub data Says (pl : Plot) (p q : ℕ) : ℕ → Type 0 where
+  aboveByHeight : q ≢ virtualPit → ltZ (height pl p) (height pl q) ≡ true → Says pl p q 1
+  aboveByTie : q ≢ virtualPit → height pl q ≡ height pl p → below pl p q ≡ true → Says pl p q 2
+  belowByHeight : q ≢ virtualPit → ltZ (height pl q) (height pl p) ≡ true → Says pl p q 3
+  thePit : q ≡ virtualPit → Says pl p q 3
+  belowByTie : q ≢ virtualPit → height pl q ≡ height pl p → below pl q p ≡ true → Says pl p q 4
 
 -- of a post, in the outcome of the call: its answer's k and mark, and the eight bytes that it left
-module _ (pl : Plot) (post : ℕ) (k mark : ℕ) (bytes : List ℕ) where
-  pub record Grounds : Type 0 where
-    -- the mark is the one that a survey of the same heights writes at that post, whatever marks are lent to it
-    pub surveyed : (marks : List ℕ) → length marks ≡ posts pl
-        → (surveyAnswer pl marks .code ≡ 0) × (post < length (surveyMarks pl marks)) × (getD (surveyMarks pl marks) post 0 ≡ mark)
-    -- each code says how its member lies, in the ring's order; the codes number the ring's members, and are at the front, with zeros after
-    pub lies : (i : ℕ) → i < length (ringOf pl post) → Lies pl post (getD (ringOf pl post) i 0) (getD (codesIn bytes) i 0)
-    pub number : length (codesIn bytes) ≡ length (ringOf pl post)
-    pub front : bytes ≡ codesIn bytes ++ replicate (8 - length (codesIn bytes)) 0
-    -- k is the number of lower runs of the codes read as a circle: at a peak 1, at a pit 0
-    pub runsOfCodes : k ≡ length (runs saysBelow (codesIn bytes))
-    pub atPeak : mark ≡ 1 → k ≡ 1
-    pub atPit : mark ≡ 2 → k ≡ 0
-    -- and the mark follows from them: whether some member is above, whether some is below, and k
-    pub marked : mark ≡ markFor (not (all saysBelow (codesIn bytes))) (any saysBelow (codesIn bytes)) k
+pub record Grounds (pl : Plot) (post k mark : ℕ) (bytes : List ℕ) : Type 0 where
+  -- the mark is the one that a survey of the same heights writes at that post, whatever marks are lent to it
+  pub surveyed : (marks : List ℕ) → length marks ≡ posts pl
+      → (surveyAnswer pl marks .code ≡ 0) × (post < length (surveyMarks pl marks)) × (getD (surveyMarks pl marks) post 0 ≡ mark)
+  -- each code says how its member stands to the post, in the ring's order; the codes number the ring's members, and are at the front, with zeros after
+  pub says : (i : ℕ) → i < length (ringOf pl post) → Says pl post (getD (ringOf pl post) i 0) (getD (codesIn bytes) i 0)
+  pub number : length (codesIn bytes) ≡ length (ringOf pl post)
+  pub front : bytes ≡ codesIn bytes ++ replicate (8 - length (codesIn bytes)) 0
+  -- k is the number of lower runs of the codes read as a circle: at a peak 1, at a pit 0
+  pub runsOfCodes : k ≡ length (runs saysBelow (codesIn bytes))
+  pub atPeak : mark ≡ 1 → k ≡ 1
+  pub atPit : mark ≡ 2 → k ≡ 0
+  -- and the mark follows from them: whether some member is above, whether some is below, and k
+  pub marked : mark ≡ markFor (not (all saysBelow (codesIn bytes))) (any saysBelow (codesIn bytes)) k
 
 -- of every accepted call, whatever the eight bytes that were lent to it
 abbrev pub RingGrounds : Type 0

@@ -1,5 +1,6 @@
 -- The definitions of docs/SPECIFICATION.md, a file for each of its sections. These files are what a reader must believe; the laws are in proofs/.
--- (Lists, Flags and Demand are no sections of their own. Flags serves the code, and no promise of a call cites it; Demand states what is proved of them all.)
+-- (Lists, Flags, Demand and Grounds are no sections of their own. Flags serves the code, and no promise of a call cites it; Demand states what is proved of
+-- them all, and Grounds what is proved of the ring call.)
 --
 -- To read them without knowing the language:
 --     f : A → B, and below it f x = ..       a definition with its type; `abbrev`, `unfoldable` and `pub` may be skipped
@@ -14,7 +15,8 @@
 --     []   x ∷ l   l ++ m   length           lists; x ∷ binds closer than ++
 --     getD l i d   set l i x   replicate n x element i of l, or d past its end; l with x at place i; x, n times
 --     take n l   drop n l   map f l          the first n elements; the others; f of each.  flatten: lists one after the other
---     A × B   A ⊎ B   A ↔ B   A → ⊥   x ≡ y  and; or; if and only if; not; equal.  T b: b is true.  Unit {0}: no condition
+--     A × B   A ⊎ B   A ↔ B   A → ⊥          and; or; if and only if; not.  Unit {0}: no condition
+--     x ≡ y   x ≢ y   T b                    equal; not equal; b is true
 --     List·Memᴰ x l                          x is an element of l
 --     record { x = ..; y = .. }   a .x       a value of named parts; its part x, also written a.x
 --     data D where a b : ..                  the values, or the proofs, of D are made by a and b alone

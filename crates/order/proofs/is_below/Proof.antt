@@ -1,6 +1,6 @@
 -- The virtual pit is below every post; posts are compared by height, then by number.
 use Prim.Native.Nat.{ℕ}
-use mathlib.Core.Path.{_≡_, sym, _∙_, ap}
+use mathlib.Core.Path.{sym, _∙_, ap}
 use native.Mathlib.Omega.{arith}
 use Rattle.surface.specs.Plot.{Plot, plotOf, below, virtualPit, PostOf}
 use Rattle.surface.proofs.OfPlots.HeightOrder.{pit-below, not-below-pit}

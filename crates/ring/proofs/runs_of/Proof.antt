@@ -1,6 +1,4 @@
 -- Case by case as in `runsFor`.
-use native.Mathlib.Omega.{arith}
-use mathlib.Core.Path.{_≡_, refl, sym, _∙_}
 use borrow.Author.Needs.{needs}
 use borrow.Author.Tests.{lt-ltb, le-ltb}
 use Rattle.surface.specs.Flags.{runsFor}

@@ -1,7 +1,6 @@
 -- The outcome of a ring call, by whether it was accepted; and what an accepted one shows.
 use Prim.Native.Nat.{ℕ, _-_, _<_}
-use native.Mathlib.Omega.{arith}
-use mathlib.Core.Path.{_≡_, refl, sym, _∙_, ap}
+use mathlib.Core.Path.{_≡_, refl, _∙_, ap}
 use mathlib.Core.List.{List, [], _∷_, _++_}
 use borrow.Author.Tests.{ne-eqb}
 use lib.Dec.{ltb}
@@ -15,7 +14,7 @@ use Rattle.surface.specs.Calls.{surveyAnswer, surveyMarks, ringAnswer, r
 use Rattle.surface.specs.Grounds.{codesIn, Grounds, RingGrounds}
 use Rattle.surface.specs.declared.Answer.{Answer}
 use Rattle.surface.proofs.General.ListOf.{length-listOf, getD-listOf, listOf-padded, filter-padded}
-use Rattle.surface.proofs.OfPlots.Codes.{codes-lie, codes-some, codes-number, codes-short, codes-runs, codes-mark, mark-runs}
+use Rattle.surface.proofs.OfPlots.Codes.{codes-say, codes-some, codes-number, codes-short, codes-runs, codes-mark, mark-runs}
 use Rattle.surface.proofs.OfCalls.Verdicts.{leads-passed, none-left}
 use Rattle.surface.proofs.OfCalls.Accepted.{ring-valid, valid-survey}
 use Rattle.surface.proofs.OfCalls.MarkCalls.{survey-filled}
@@ -61,7 +60,7 @@ module _ (pl : Plot) (p : ℕ) where
     grounds =
         record {
           surveyed = survey-mark;
-          lies = rw bytes-codes (codes-lie pl p post);
+          says = rw bytes-codes (codes-say pl p post);
           number = rw bytes-codes (codes-number pl p);
           front = rw bytes-codes bytes-are;
           runsOfCodes = rw bytes-codes (codes-runs pl p);

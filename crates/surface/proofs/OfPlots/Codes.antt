@@ -1,8 +1,7 @@
 -- The codes of a ring tell its sides, so its lower runs and the mark.
 use Prim.Native.Nat.{ℕ, _≤_, _<_}
-use native.Mathlib.Omega.{arith}
 use mathlib.Core.Path.{_≡_, refl, sym, _∙_, ap}
-use mathlib.Core.Bool.{Bool, true, false, cond, not, _&&_, _||_, true≢false}
+use mathlib.Core.Bool.{Bool, true, false, not, _||_, true≢false}
 use mathlib.Core.Logic.{_≢_}
 use mathlib.Core.List.{List, [], _∷_, map, List·Memᴰ}
 use borrow.Author.Tests.{eqb-true, eqb-false}
@@ -15,7 +14,7 @@ use Rattle.surface.specs.Edges.{fallsIn, members, places, ring, ringOf, 
 use Rattle.surface.specs.Marks.{markFor, mark, markAt}
 use Rattle.surface.specs.Flags.{runsFor}
 use Rattle.surface.specs.Codes.{codeFor, memberCode, codesOf, runsBelow}
-use Rattle.surface.specs.Grounds.{saysBelow, Lies, aboveByHeight, aboveByTie, belowByHeight, thePit, belowByTie}
+use Rattle.surface.specs.Grounds.{saysBelow, Says, aboveByHeight, aboveByTie, belowByHeight, thePit, belowByTie}
 use Rattle.surface.proofs.General.Bools.{either}
 use Rattle.surface.proofs.General.ListOf.{getD-member, getD-mapped}
 use Rattle.surface.proofs.AnyOrder.Grid.{not-pit}
@@ -50,19 +49,19 @@ module _ (pl : Plot) (p : ℕ) where
   codes-some = each-some (ringOf pl p)
 
   -- what the codes say: of the virtual pit, and of another post
-  pit-lies : p ≢ virtualPit → Lies pl p virtualPit (memberCode pl p virtualPit)
+  pit-says : p ≢ virtualPit → Says pl p virtualPit (memberCode pl p virtualPit)
   unfolding memberCode
-  pit-lies k = rw (pit-below pl p k, not-tied-pit pl p) (thePit refl)
+  pit-says k = rw (pit-below pl p k, not-tied-pit pl p) (thePit refl)
 
-  post-lies : p ≢ virtualPit → (q : ℕ) → q ≢ virtualPit → q ≢ p → Lies pl p q (memberCode pl p q)
+  post-says : p ≢ virtualPit → (q : ℕ) → q ≢ virtualPit → q ≢ p → Says pl p q (memberCode pl p q)
   unfolding memberCode
-  post-lies k q v n =
+  post-says k q v n =
       rw (tied-level pl p q k v) (go (ltZ (height pl p) (height pl q)) (ltZ (height pl q) (height pl p)) (below pl q p) refl refl refl)
     where
       above : below pl p q ≡ not (below pl q p)
       above = below-strict pl .other q p n
 
-      go : (a b t : Bool) → ltZ (height pl p) (height pl q) ≡ a → ltZ (height pl q) (height pl p) ≡ b → below pl q p ≡ t → Lies pl p q (codeFor t (not (a || b)))
+      go : (a b t : Bool) → ltZ (height pl p) (height pl q) ≡ a → ltZ (height pl q) (height pl p) ≡ b → below pl q p ≡ t → Says pl p q (codeFor t (not (a || b)))
       go true b true ea eb et = absurd (true≢false (sym (height-below pl p q k v ea) ∙ above ∙ ap not et))
       go true b false ea eb et = aboveByHeight v ea
       go false true true ea eb et = belowByHeight v eb
@@ -70,8 +69,8 @@ module _ (pl : Plot) (p : ℕ) where
       go false false true ea eb et = belowByTie v (ltZ-level (height pl q) (height pl p) eb ea) et
       go false false false ea eb et = aboveByTie v (ltZ-level (height pl q) (height pl p) eb ea) (above ∙ ap not et)
 
-  code-lies : p ≢ virtualPit → (q : ℕ) → q ≢ p → Lies pl p q (memberCode pl p q)
-  code-lies k q n = either (eqb q virtualPit) (λ e. rw (eqb-true q virtualPit e) (pit-lies k)) (λ e. post-lies k q (eqb-false q virtualPit e) n)
+  code-says : p ≢ virtualPit → (q : ℕ) → q ≢ p → Says pl p q (memberCode pl p q)
+  code-says k q n = either (eqb q virtualPit) (λ e. rw (eqb-true q virtualPit e) (pit-says k)) (λ e. post-says k q (eqb-false q virtualPit e) n)
 
   pub codes-number : length (codesOf pl p) ≡ length (ringOf pl p)
   unfolding codesOf
@@ -91,11 +90,11 @@ module _ (pl : Plot) (p : ℕ) where
     unfolding ringOf
     others q = ring-other (post .valid .sides) (fallsIn pl) p q (post .post)
 
-    pub codes-lie : (i : ℕ) → i < length (ringOf pl p) → Lies pl p (getD (ringOf pl p) i 0) (getD (codesOf pl p) i 0)
+    pub codes-say : (i : ℕ) → i < length (ringOf pl p) → Says pl p (getD (ringOf pl p) i 0) (getD (codesOf pl p) i 0)
     unfolding codesOf
-    codes-lie i h =
+    codes-say i h =
         rw (getD-mapped (memberCode pl p) (ringOf pl p) i 0 0 h)
-        (code-lies (not-pit (post .valid .sides) (post .post)) _ (others _ (getD-member (ringOf pl p) i 0 h)))
+        (code-says (not-pit (post .valid .sides) (post .post)) _ (others _ (getD-member (ringOf pl p) i 0 h)))
 
     mark-is : markAt pl p ≡ markFor (not (all (λ q. below pl q p) (ringOf pl p))) (any (λ q. below pl q p) (ringOf pl p)) (runsBelow pl p)
     unfolding markAt mark

@@ -1,16 +1,15 @@
 -- Within the ring the code of its member, past it the 0 that stands for none.
 use native.Mathlib.Omega.{arith}
-use mathlib.Core.Path.{_≡_, sym, _∙_, ap}
+use mathlib.Core.Path.{sym, _∙_, ap}
 use mathlib.Core.List.{List}
 use borrow.Author.Needs.{needs}
 use lib.ListN.{getD, List·getD-eq-default}
 use lib.Seq.{getD-take}
-use Rattle.surface.specs.Plot.{Plot, plotOf, posts, Vertex}
+use Rattle.surface.specs.Plot.{plotOf}
 use Rattle.surface.specs.Edges.{ringOf}
 use Rattle.surface.specs.Codes.{memberCode, codesOf}
 use Rattle.surface.proofs.General.ListOf.{getD-mapped}
 use Rattle.surface.proofs.OfPlots.Codes.{codes-number}
-use Rattle.post.specs.Rings.{held}
 use Rattle.post.proofs.Rings.{held-vertex}
 use Rattle.ring.proofs.codes.code_at.Statement.{statement}
 use Rattle.ring.proofs.codes.code_at.Tie as tie
