@@ -9,16 +9,12 @@ use Rattle.surface.specs.Plot.{Plot, posts, isHeight}
 use Rattle.surface.specs.Lines.{dalesOf, hillsOf}
 use Rattle.surface.specs.Refusals.{Row, verdict, rowOf, isNot, row1, row2, row4, partsVerdict}
 use Rattle.surface.specs.Calls.{partsDales, partsHills}
-use Rattle.surface.specs.declared.Answer.{Answer}
 use Rattle.surface.proofs.General.Bools.{or-left, or-right}
 use Rattle.surface.proofs.General.FirstNot.{ranged-all}
 use Rattle.surface.proofs.AnyOrder.Grid.{test-sides}
 use Rattle.surface.proofs.OfCalls.Verdicts.{passed, row-holds, row-passed, leads-refused, leads-passed}
 use Rattle.surface.proofs.OfCalls.Accepted.{plot-sized}
 use Rattle.parts.specs.Filled.{ForParts}
-
-pub code : {a b : Answer} → a ≡ b → a .code ≡ b .code
-code e = ap (λ (x : Answer). x .code) e
 
 module _ (pl : Plot) (dales hills : List ℕ) where
   -- rows 1 and 2

@@ -1,19 +1,15 @@
 -- `limits::post_verdict` meets its contract: rows 1 and 2 lead, then row 4, then row 5.
-use mathlib.Core.Path.{_≡_, sym, _∙_, ap}
+use mathlib.Core.Path.{_≡_, sym, _∙_}
 use mathlib.Core.List.{[], _∷_}
 use native.Mathlib.Omega.{arith}
 use borrow.Author.Needs.{needs}
 use Rattle.surface.specs.Plot.{Plot, plot, isHeight}
 use Rattle.surface.specs.Refusals.{verdict, row1, row2, row4}
-use Rattle.surface.specs.declared.Answer.{Answer}
-use Rattle.surface.proofs.OfCalls.Verdicts.{leads-refused}
+use Rattle.surface.proofs.OfCalls.Verdicts.{code, leads-refused}
 use Rattle.surface.proofs.OfCalls.Accepted.{plot-sized}
 use Rattle.limits.proofs.Table.{post-range, post-refused, post-passed}
 use Rattle.limits.proofs.post_verdict.Statement.{statement}
 use Rattle.limits.proofs.post_verdict.Tie as tie
-
-code : {a b : Answer} → a ≡ b → a .code ≡ b .code
-code e = ap (λ (x : Answer). x .code) e
 
 abbrev asked : tie.Else1 → Plot
 asked c = let a = c .before .before .before .args in plot (a .rows) (a .columns) (a .heights .now)

@@ -4,7 +4,8 @@ use Rattle.surface.specs.Plot.{Plot, plot}
 use Rattle.surface.specs.Calls.{partsAnswer}
 use Rattle.parts.specs.Filled.{ForParts}
 use Rattle.parts.proofs.Descents.{dales-end, hills-end, dales-named, hills-named}
-use Rattle.parts.proofs.Outcome.{code, parts-valid, parts-kept, parts-filled}
+use Rattle.surface.proofs.OfCalls.Verdicts.{code}
+use Rattle.parts.proofs.Outcome.{parts-valid, parts-kept, parts-filled}
 use borrow.Author.Needs.{needs}
 use Rattle.parts.proofs.dales_and_hills.Statement.{statement}
 use Rattle.parts.proofs.dales_and_hills.Tie as tie

@@ -5,7 +5,8 @@ use native.Mathlib.Omega.{arith}
 use Rattle.surface.specs.Plot.{Plot, plot}
 use Rattle.surface.specs.Refusals.{verdict, row1, row2}
 use Rattle.surface.proofs.OfCalls.Accepted.{plot-sized}
-use Rattle.parts.proofs.Outcome.{code, size-refused, lists-refused, lists-passed}
+use Rattle.surface.proofs.OfCalls.Verdicts.{code}
+use Rattle.parts.proofs.Outcome.{size-refused, lists-refused, lists-passed}
 use borrow.Author.Needs.{needs}
 use Rattle.parts.proofs.verdict.Statement.{statement}
 use Rattle.parts.proofs.verdict.Tie as tie

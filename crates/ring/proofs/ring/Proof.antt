@@ -6,13 +6,11 @@ use Rattle.surface.specs.Flags.{runsFor}
 use Rattle.surface.specs.Refusals.{ringVerdict}
 use Rattle.surface.specs.declared.Answer.{Answer}
 use Rattle.surface.proofs.OfPlots.Codes.{mark-runs}
+use Rattle.surface.proofs.OfCalls.Verdicts.{code}
 use Rattle.surface.proofs.OfCalls.Accepted.{ForRing, ring-valid}
 use Rattle.surface.proofs.OfCalls.RingCall.{ring-refused, ring-served}
 use Rattle.ring.proofs.ring.Statement.{statement}
 use Rattle.ring.proofs.ring.Tie as tie
-
-code : {a b : Answer} → a ≡ b → a .code ≡ b .code
-code e = ap (λ (x : Answer). x .code) e
 
 abbrev asked : tie.After-ring-verdict → Plot
 asked c = let a = c .before .before .before .args in plot (a .rows) (a .columns) (a .heights .now)

@@ -6,13 +6,9 @@ use borrow.Author.Needs.{needs}
 use borrow.Author.Tests.{eq-eqb, ne-eqb}
 use Rattle.surface.specs.Plot.{Plot, plot}
 use Rattle.surface.specs.Refusals.{verdict, row1, row2, ringVerdict}
-use Rattle.surface.specs.declared.Answer.{Answer}
-use Rattle.surface.proofs.OfCalls.Verdicts.{leads-refused, leads-passed, row-holds, row-passed}
+use Rattle.surface.proofs.OfCalls.Verdicts.{code, leads-refused, leads-passed, row-holds, row-passed}
 use Rattle.ring.proofs.ring_verdict.Statement.{statement}
 use Rattle.ring.proofs.ring_verdict.Tie as tie
-
-code : {a b : Answer} → a ≡ b → a .code ≡ b .code
-code e = ap (λ (x : Answer). x .code) e
 
 abbrev asked : tie.Else1 → Plot
 asked c = let a = c .before .before .before .before .args in plot (a .rows) (a .columns) (a .heights .now)

@@ -12,10 +12,9 @@ use Rattle.surface.specs.Codes.{codesOf, ringBytes, runsBelow}
 use Rattle.surface.specs.Refusals.{ringVerdict}
 use Rattle.surface.specs.Calls.{surveyAnswer, surveyMarks, ringAnswer, ringList}
 use Rattle.surface.specs.Grounds.{codesIn, Grounds, RingGrounds}
-use Rattle.surface.specs.declared.Answer.{Answer}
 use Rattle.surface.proofs.General.ListOf.{length-listOf, getD-listOf, listOf-padded, filter-padded}
 use Rattle.surface.proofs.OfPlots.Codes.{codes-say, codes-some, codes-number, codes-short, codes-runs, codes-mark, mark-runs}
-use Rattle.surface.proofs.OfCalls.Verdicts.{leads-passed, none-left}
+use Rattle.surface.proofs.OfCalls.Verdicts.{code, leads-passed, none-left}
 use Rattle.surface.proofs.OfCalls.Accepted.{ring-valid, valid-survey}
 use Rattle.surface.proofs.OfCalls.MarkCalls.{survey-filled}
 
@@ -52,7 +51,7 @@ module _ (pl : Plot) (p : ℕ) where
         → (surveyAnswer pl marks .code ≡ 0) × (p < length (surveyMarks pl marks)) × (getD (surveyMarks pl marks) p 0 ≡ markAt pl p)
     unfolding surveyAnswer marksOf
     survey-mark marks n =
-        let e = ap (λ (v : Answer). v .code) (valid-survey pl (post .valid) marks n) in
+        let e = code (valid-survey pl (post .valid) marks n) in
         rw (survey-filled pl marks e) (e, rw (length-listOf) (post .post), getD-listOf (markAt pl) (posts pl) p 0 (post .post))
 
     grounds : Grounds pl p (runsBelow pl p) (markAt pl p) (ringBytes pl p)

@@ -1,7 +1,7 @@
 -- The table of refusals: a number is returned exactly if its row is the first that holds, and a call is accepted exactly if no row holds.
 use Prim.Native.Nat.{ℕ, _<_}
 use native.Mathlib.Omega.{arith}
-use mathlib.Core.Path.{_≡_, refl}
+use mathlib.Core.Path.{_≡_, refl, ap}
 use mathlib.Core.Logic.{_↔_}
 use mathlib.Core.Bool.{Bool, true, false, cond, _&&_, _||_, true≢false}
 use mathlib.Core.List.{List, [], _∷_, _++_}
@@ -10,6 +10,10 @@ use borrow.Author.Tests.{ne-eqb}
 use Rattle.surface.specs.Lists.{any}
 use Rattle.surface.specs.Refusals.{Row, rowOf, accepted, verdict, settled}
 use Rattle.surface.specs.declared.Answer.{Answer}
+
+-- equal answers have one number
+pub code : {a b : Answer} → a ≡ b → a .code ≡ b .code
+code e = ap (λ (x : Answer). x .code) e
 
 -- r is the first row of the table that holds
 pub data First (r : Row) : List Row → Type 0 where

@@ -1,5 +1,5 @@
 -- A refusal is handed on, and an accepted call puts the height in and redraws the marks round it.
-use mathlib.Core.Path.{_≡_, sym, _∙_, ap}
+use mathlib.Core.Path.{_≡_, sym, _∙_}
 use native.Mathlib.Omega.{arith}
 use mir.Syntax.{w32}
 use mir.Val.{toZ, ofZ}
@@ -8,14 +8,12 @@ use Rattle.surface.specs.Plot.{Plot, plot}
 use Rattle.surface.specs.Refusals.{reshootVerdict}
 use Rattle.surface.specs.Calls.{reshootAnswer}
 use Rattle.surface.specs.declared.Answer.{Answer}
+use Rattle.surface.proofs.OfCalls.Verdicts.{code}
 use Rattle.surface.proofs.OfCalls.Accepted.{ForReshoot, reshoot-valid}
 use Rattle.surface.proofs.OfCalls.MarkCalls.{reshoot-kept, reshoot-filled}
 use Rattle.surface.proofs.OfCalls.Series.{reshot-valid}
 use Rattle.survey.proofs.reshoot.Statement.{statement}
 use Rattle.survey.proofs.reshoot.Tie as tie
-
-code : {a b : Answer} → a ≡ b → a .code ≡ b .code
-code e = ap (λ (x : Answer). x .code) e
 
 -- the new height, as the code holds it
 held : (s : tie.Start) → toZ w32 (ofZ w32 (s .args .height)) ≡ s .args .height

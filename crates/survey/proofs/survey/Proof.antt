@@ -4,14 +4,12 @@ use native.Mathlib.Omega.{arith}
 use Rattle.surface.specs.Plot.{Plot, plot}
 use Rattle.surface.specs.Refusals.{surveyVerdict}
 use Rattle.surface.specs.declared.Answer.{Answer}
+use Rattle.surface.proofs.OfCalls.Verdicts.{code}
 use Rattle.surface.proofs.OfCalls.Accepted.{ForSurvey, survey-valid}
 use Rattle.surface.proofs.OfCalls.MarkCalls.{survey-refused, survey-kept, survey-served, survey-filled}
 use borrow.Author.Needs.{needs}
 use Rattle.survey.proofs.survey.Statement.{statement}
 use Rattle.survey.proofs.survey.Tie as tie
-
-code : {a b : Answer} → a ≡ b → a .code ≡ b .code
-code e = ap (λ (x : Answer). x .code) e
 
 -- the plot that was asked about, and what the verdict's acceptance says
 abbrev asked : tie.After-survey-verdict → Plot

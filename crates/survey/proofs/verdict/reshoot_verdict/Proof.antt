@@ -8,15 +8,11 @@ use borrow.Author.Needs.{needs}
 use borrow.Author.Tests.{lt-ltb, le-ltb, not-true, not-false}
 use Rattle.surface.specs.Plot.{Plot, plot, posts, isHeight}
 use Rattle.surface.specs.Refusals.{verdict, surveyVerdict, reshootVerdict, row5, row6}
-use Rattle.surface.specs.declared.Answer.{Answer}
-use Rattle.surface.proofs.OfCalls.Verdicts.{leads-refused, leads-passed, row-holds, row-passed, none-left}
+use Rattle.surface.proofs.OfCalls.Verdicts.{code, leads-refused, leads-passed, row-holds, row-passed, none-left}
 use Rattle.surface.proofs.OfCalls.Accepted.{survey-valid}
 use lib.ListN.{length}
 use Rattle.survey.proofs.verdict.reshoot_verdict.Statement.{statement}
 use Rattle.survey.proofs.verdict.reshoot_verdict.Tie as tie
-
-code : {a b : Answer} → a ≡ b → a .code ≡ b .code
-code e = ap (λ (x : Answer). x .code) e
 
 abbrev asked : tie.Else1 → Plot
 asked c = let a = c .before .before .before .before .args in plot (a .rows) (a .columns) (a .heights .now)
