@@ -23,6 +23,8 @@ typedef struct {
     sn_counts (*survey)(uint32_t, uint32_t, const int32_t *, size_t, uint8_t *, size_t);
     sn_answer (*reshoot)(uint32_t, uint32_t, int32_t *, size_t, uint8_t *, size_t,
                          uint32_t, int32_t);
+    sn_ring_mark (*ring)(uint32_t, uint32_t, const int32_t *, size_t, uint32_t,
+                         uint8_t *, size_t);
     sn_next (*next_down)(uint32_t, uint32_t, const int32_t *, size_t, uint32_t);
     sn_next (*next_up)(uint32_t, uint32_t, const int32_t *, size_t, uint32_t);
     sn_entries (*thalweg)(uint32_t, uint32_t, const int32_t *, size_t, uint32_t, uint32_t,
@@ -36,9 +38,9 @@ typedef struct {
 } calls;
 
 #define CALLS(prefix)                                                                 \
-    {prefix##_survey, prefix##_reshoot, prefix##_next_down, prefix##_next_up,         \
-     prefix##_thalweg, prefix##_ridge, prefix##_dales_and_hills, prefix##_read_survey, \
-     prefix##_write_survey}
+    {prefix##_survey, prefix##_reshoot, prefix##_ring, prefix##_next_down,            \
+     prefix##_next_up, prefix##_thalweg, prefix##_ridge, prefix##_dales_and_hills,    \
+     prefix##_read_survey, prefix##_write_survey}
 
 enum { LIBRARY, SCALAR, VECTOR, BUILDS };
 static const calls builds[BUILDS] = {CALLS(sn), CALLS(scalar), CALLS(vector)};
@@ -103,15 +105,17 @@ static void fill(int32_t *heights, int side, int kind)
 
 /* ---- one call on one plot ---- */
 
-enum { SURVEY, DALES_AND_HILLS, RESHOOT, NEXT_DOWN, NEXT_UP, THALWEG, RIDGE, READ, WRITE, NAMES };
+enum {
+    SURVEY, DALES_AND_HILLS, RESHOOT, RING, NEXT_DOWN, NEXT_UP, THALWEG, RIDGE, READ, WRITE, NAMES
+};
 static const char *const call_names[NAMES] = {
-    "survey", "dales and hills", "re-shoot", "next down", "next up",
+    "survey", "dales and hills", "re-shoot", "ring", "next down", "next up",
     "thalweg", "ridge", "read", "write"
 };
 
 static uint32_t side, posts, post, run;
 static int32_t heights[SN_MAX_POSTS], held[SN_MAX_POSTS];
-static uint8_t marks[SN_MAX_POSTS], file[SN_MAX_FILE];
+static uint8_t marks[SN_MAX_POSTS], ring[SN_RING_LENGTH], file[SN_MAX_FILE];
 static uint16_t dales[SN_MAX_POSTS], hills[SN_MAX_POSTS], line[SN_MAX_LINE];
 
 /* The sum of an answer's numbers. */
@@ -123,6 +127,11 @@ static uint32_t of_answer(sn_answer a)
 static uint32_t of_counts(sn_counts a)
 {
     return a.code + a.place + a.peaks + 3 * a.pits + 5 * a.saddles;
+}
+
+static uint32_t of_ring_mark(sn_ring_mark a)
+{
+    return a.code + a.place + a.k + 7 * a.mark;
 }
 
 static uint32_t of_next(sn_next a)
@@ -154,6 +163,8 @@ static uint32_t once(int build, int name, uint32_t turn)
         return of_answer(b->dales_and_hills(side, side, heights, n, dales, n, hills, n));
     case RESHOOT:
         return of_answer(b->reshoot(side, side, held, n, marks, n, p, heights[(p + turn) % posts]));
+    case RING:
+        return of_ring_mark(b->ring(side, side, heights, n, p, ring, SN_RING_LENGTH));
     case NEXT_DOWN:
         return of_next(b->next_down(side, side, heights, n, p));
     case NEXT_UP:
@@ -177,18 +188,20 @@ static uint64_t digest(uint64_t sum, const void *list, size_t size)
     return sum;
 }
 
-/* Some calls from the same start, and a digest of answers and lists. */
+/* Some calls from the same start, and a digest of answers and lists. Each turn writes
+   all of the ring, so that it is looked at after each. */
 static uint64_t outcome(int build, int name)
 {
     uint64_t sum = 0;
 
     memcpy(held, heights, sizeof held);
     memset(marks, 0, sizeof marks);
+    memset(ring, 99, sizeof ring);
     memset(dales, 0, sizeof dales);
     memset(hills, 0, sizeof hills);
     memset(line, 0, sizeof line);
     for (uint32_t turn = 0; turn < 20; turn++)
-        sum = sum * 31 + once(build, name, turn);
+        sum = digest(sum * 31 + once(build, name, turn), ring, sizeof ring);
     sum = digest(sum, held, sizeof held);
     sum = digest(sum, marks, sizeof marks);
     sum = digest(sum, dales, sizeof dales);

@@ -13,6 +13,8 @@
                               uint8_t *, size_t);                              \
     sn_answer prefix##_reshoot(uint32_t, uint32_t, int32_t *, size_t,          \
                                uint8_t *, size_t, uint32_t, int32_t);          \
+    sn_ring_mark prefix##_ring(uint32_t, uint32_t, const int32_t *, size_t,    \
+                               uint32_t, uint8_t *, size_t);                   \
     sn_next prefix##_next_down(uint32_t, uint32_t, const int32_t *, size_t,    \
                                uint32_t);                                      \
     sn_next prefix##_next_up(uint32_t, uint32_t, const int32_t *, size_t,      \
