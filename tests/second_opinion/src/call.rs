@@ -9,6 +9,7 @@ pub enum Kind {
     #[default]
     Survey,
     Reshoot,
+    Ring,
     NextDown,
     NextUp,
     Thalweg,
@@ -18,9 +19,10 @@ pub enum Kind {
     WriteSurvey,
 }
 
-pub const KINDS: [Kind; 9] = [
+pub const KINDS: [Kind; 10] = [
     Kind::Survey,
     Kind::Reshoot,
+    Kind::Ring,
     Kind::NextDown,
     Kind::NextUp,
     Kind::Thalweg,
@@ -40,6 +42,7 @@ pub struct Call {
     pub marks: Vec<u8>,
     pub post: u32,
     pub height: i32,
+    pub ring: Vec<u8>,
     pub run: u32,
     pub line: Vec<u16>,
     pub dales: Vec<u16>,
@@ -58,6 +61,7 @@ impl Call {
             marks,
             post,
             height,
+            ring,
             run,
             line,
             dales,
@@ -69,6 +73,7 @@ impl Call {
         match kind {
             Kind::Survey => opinion::survey(rows, columns, heights, marks).to_vec(),
             Kind::Reshoot => opinion::reshoot(rows, columns, heights, marks, post, height).to_vec(),
+            Kind::Ring => opinion::ring(rows, columns, heights, post, ring).to_vec(),
             Kind::NextDown => next(Way::Down),
             Kind::NextUp => next(Way::Up),
             Kind::Thalweg => {
@@ -88,6 +93,7 @@ impl Call {
         self.heights.is_empty()
             || match self.kind {
                 Kind::Survey | Kind::Reshoot => self.marks.is_empty(),
+                Kind::Ring => self.ring.is_empty(),
                 Kind::NextDown | Kind::NextUp => false,
                 Kind::Thalweg | Kind::Ridge => self.line.is_empty(),
                 Kind::DalesAndHills => self.dales.is_empty() || self.hills.is_empty(),
@@ -105,6 +111,7 @@ impl Call {
         }
         first("heights", &self.heights, &other.heights)
             + &first("marks", &self.marks, &other.marks)
+            + &first("ring", &self.ring, &other.ring)
             + &first("line", &self.line, &other.line)
             + &first("dales", &self.dales, &other.dales)
             + &first("hills", &self.hills, &other.hills)
@@ -118,7 +125,7 @@ impl fmt::Display for Call {
         write!(
             f,
             "{:?}, rows {}, columns {}, post {}, height {}, run {}; lengths: heights {}, \
-             marks {}, line {}, dales {}, hills {}, file {}",
+             marks {}, ring {}, line {}, dales {}, hills {}, file {}",
             self.kind,
             self.rows,
             self.columns,
@@ -127,6 +134,7 @@ impl fmt::Display for Call {
             self.run,
             self.heights.len(),
             self.marks.len(),
+            self.ring.len(),
             self.line.len(),
             self.dales.len(),
             self.hills.len(),

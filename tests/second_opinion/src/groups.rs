@@ -12,12 +12,13 @@ use crate::call::{Call, Kind};
 use crate::opinion::file_of;
 use crate::plots::Chance;
 use crate::surface::{Plot, Way};
-use crate::tester::Tester;
+use crate::tester::{law, Outcome, Tester};
 
 pub fn all(t: &mut Tester, chance: &mut Chance, long: bool) {
     let times = if long { 20 } else { 1 };
     bench_plots::bench_plots(t);
     refusals::refusals(t, chance, 12 * times);
+    refusals::ring_lists(t, chance);
     bounds::sides(t, chance);
     bounds::heights(t, chance);
     bounds::posts_and_runs(t, chance);
@@ -51,6 +52,10 @@ fn good(kind: Kind, rows: usize, columns: usize, heights: &[i32], chance: &mut C
             call.post = chance.below(posts) as u32;
             call.height = chance.within(-3, 3);
         }
+        Kind::Ring => {
+            call.post = chance.below(posts) as u32;
+            call.ring = chance.bytes(8);
+        }
         Kind::NextDown | Kind::NextUp => call.post = chance.below(posts) as u32,
         Kind::Thalweg | Kind::Ridge => {
             let plot = Plot { rows, columns, heights };
@@ -71,4 +76,11 @@ fn good(kind: Kind, rows: usize, columns: usize, heights: &[i32], chance: &mut C
         Kind::WriteSurvey => call.file = chance.bytes(7 + 4 * posts),
     }
     call
+}
+
+/// A ring shows the mark that these have at its post.
+fn shows_mark(t: &Tester, ring: &Call, marks: &[u8]) -> Outcome {
+    let (answer, _) = t.agree(ring)?;
+    let mark = marks[ring.post as usize] as u32;
+    law(answer[0] == 0 && answer[3] == mark, "the mark shown is the one in the list", ring)
 }

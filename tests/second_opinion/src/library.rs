@@ -10,6 +10,8 @@ struct Answer([u32; 2]);
 #[repr(C)]
 struct Counts([u32; 5]);
 #[repr(C)]
+struct RingMark([u32; 4]);
+#[repr(C)]
 struct Next([u32; 3]);
 #[repr(C)]
 struct Entries([u32; 3]);
@@ -35,6 +37,15 @@ extern "C" {
         post: u32,
         height: i32,
     ) -> Answer;
+    fn sn_ring(
+        rows: u32,
+        columns: u32,
+        h: *const i32,
+        hn: usize,
+        post: u32,
+        ring: *mut u8,
+        rn: usize,
+    ) -> RingMark;
     fn sn_next_down(rows: u32, columns: u32, h: *const i32, hn: usize, post: u32) -> Next;
     fn sn_next_up(rows: u32, columns: u32, h: *const i32, hn: usize, post: u32) -> Next;
     fn sn_thalweg(
@@ -142,8 +153,40 @@ impl Guarded {
     }
 }
 
+/// Where the lists of a call lie.
+struct Lent {
+    heights: *mut i32,
+    marks: *mut u8,
+    ring: *mut u8,
+    line: *mut u16,
+    dales: *mut u16,
+    hills: *mut u16,
+    file: *mut u8,
+}
+
+/// The answer of the C call, which finds its lists there.
+unsafe fn answer(call: &Call, lent: &Lent) -> Vec<u32> {
+    let Lent { heights, marks, ring, line, dales, hills, file } = *lent;
+    let (r, c, p, run) = (call.rows, call.columns, call.post, call.run);
+    let (h, hn) = (heights.cast_const(), call.heights.len());
+    let (mn, rn, ln) = (call.marks.len(), call.ring.len(), call.line.len());
+    let (dn, pn, fl) = (call.dales.len(), call.hills.len(), call.file.len());
+    match call.kind {
+        Kind::Survey => sn_survey(r, c, h, hn, marks, mn).0.to_vec(),
+        Kind::Reshoot => sn_reshoot(r, c, heights, hn, marks, mn, p, call.height).0.to_vec(),
+        Kind::Ring => sn_ring(r, c, h, hn, p, ring, rn).0.to_vec(),
+        Kind::NextDown => sn_next_down(r, c, h, hn, p).0.to_vec(),
+        Kind::NextUp => sn_next_up(r, c, h, hn, p).0.to_vec(),
+        Kind::Thalweg => sn_thalweg(r, c, h, hn, p, run, line, ln).0.to_vec(),
+        Kind::Ridge => sn_ridge(r, c, h, hn, p, run, line, ln).0.to_vec(),
+        Kind::DalesAndHills => sn_dales_and_hills(r, c, h, hn, dales, dn, hills, pn).0.to_vec(),
+        Kind::ReadSurvey => sn_read_survey(file, fl, heights, hn).0.to_vec(),
+        Kind::WriteSurvey => sn_write_survey(r, c, h, hn, file, fl).0.to_vec(),
+    }
+}
+
 pub struct Library {
-    memory: [Guarded; 6],
+    memory: [Guarded; 7],
 }
 
 impl Library {
@@ -153,40 +196,24 @@ impl Library {
 
     /// The library's answer; the lists become what it left.
     pub fn run(&self, call: &mut Call, edge: Edge) -> Vec<u32> {
-        let [m0, m1, m2, m3, m4, m5] = &self.memory;
-        let heights = m0.lend(&call.heights, edge);
-        let marks = m1.lend(&call.marks, edge);
-        let line = m2.lend(&call.line, edge);
-        let dales = m3.lend(&call.dales, edge);
-        let hills = m4.lend(&call.hills, edge);
-        let file = m5.lend(&call.file, edge);
-        let (r, c, p, run) = (call.rows, call.columns, call.post, call.run);
-        let (h, hn) = (heights.cast_const(), call.heights.len());
-        let (mn, ln) = (call.marks.len(), call.line.len());
-        let (dn, pn, fl) = (call.dales.len(), call.hills.len(), call.file.len());
-        let answer = unsafe {
-            match call.kind {
-                Kind::Survey => sn_survey(r, c, h, hn, marks, mn).0.to_vec(),
-                Kind::Reshoot => {
-                    sn_reshoot(r, c, heights, hn, marks, mn, p, call.height).0.to_vec()
-                }
-                Kind::NextDown => sn_next_down(r, c, h, hn, p).0.to_vec(),
-                Kind::NextUp => sn_next_up(r, c, h, hn, p).0.to_vec(),
-                Kind::Thalweg => sn_thalweg(r, c, h, hn, p, run, line, ln).0.to_vec(),
-                Kind::Ridge => sn_ridge(r, c, h, hn, p, run, line, ln).0.to_vec(),
-                Kind::DalesAndHills => {
-                    sn_dales_and_hills(r, c, h, hn, dales, dn, hills, pn).0.to_vec()
-                }
-                Kind::ReadSurvey => sn_read_survey(file, fl, heights, hn).0.to_vec(),
-                Kind::WriteSurvey => sn_write_survey(r, c, h, hn, file, fl).0.to_vec(),
-            }
+        let [m0, m1, m2, m3, m4, m5, m6] = &self.memory;
+        let lent = Lent {
+            heights: m0.lend(&call.heights, edge),
+            marks: m1.lend(&call.marks, edge),
+            ring: m2.lend(&call.ring, edge),
+            line: m3.lend(&call.line, edge),
+            dales: m4.lend(&call.dales, edge),
+            hills: m5.lend(&call.hills, edge),
+            file: m6.lend(&call.file, edge),
         };
-        m0.give_back(&mut call.heights, heights);
-        m1.give_back(&mut call.marks, marks);
-        m2.give_back(&mut call.line, line);
-        m3.give_back(&mut call.dales, dales);
-        m4.give_back(&mut call.hills, hills);
-        m5.give_back(&mut call.file, file);
+        let answer = unsafe { answer(call, &lent) };
+        m0.give_back(&mut call.heights, lent.heights);
+        m1.give_back(&mut call.marks, lent.marks);
+        m2.give_back(&mut call.ring, lent.ring);
+        m3.give_back(&mut call.line, lent.line);
+        m4.give_back(&mut call.dales, lent.dales);
+        m5.give_back(&mut call.hills, lent.hills);
+        m6.give_back(&mut call.file, lent.file);
         answer
     }
 }

@@ -105,6 +105,22 @@ pub fn reshoot(
     })())
 }
 
+pub fn ring(rows: u32, columns: u32, heights: &[i32], post: u32, list: &mut [u8]) -> [u32; 4] {
+    answer((|| {
+        let plot = plot(rows, columns, heights)?;
+        row_3(list.len(), 8)?;
+        row_4(heights, HEIGHT)?;
+        row_5(post, &plot)?;
+        let post = post as usize;
+        list.fill(0);
+        for (byte, member) in list.iter_mut().zip(plot.ring(post)) {
+            *byte = plot.lies(member, post);
+        }
+        let k = plot.runs(post, Way::Down).len();
+        Ok(vec![k as u32, plot.mark(post) as u32])
+    })())
+}
+
 pub fn next(way: Way, rows: u32, columns: u32, heights: &[i32], post: u32) -> [u32; 3] {
     answer((|| {
         let plot = plot(rows, columns, heights)?;

@@ -5,16 +5,90 @@ use crate::call::{Call, Kind};
 use crate::opinion::file_of;
 use crate::tester::{law, Tester};
 
+const FLAT: &[i32] = &[0, 0, 0, 0];
 const CROSSED: &[i32] = &[5, 0, 0, 5];
 const STAR: &[i32] = &[0, 2, 0, 2, 1, 2, 0, 2, 0];
+const HOLLOW: &[i32] = &[1, 1, 1, 1, 0, 1, 1, 1, 1];
+const RUNS: &[i32] = &[0, 3, 9, 2, 5, 7, 6, 8, 1];
 
 /// Side, heights, then the counts and the marks.
 type Survey = (u32, &'static [i32], [u32; 3], &'static [u8]);
-const SURVEYS: [Survey; 4] = [
-    (2, &[0, 0, 0, 0], [1, 1, 0], &[0, 0, 0, 1]),
+const SURVEYS: [Survey; 5] = [
+    (2, FLAT, [1, 1, 0], &[0, 0, 0, 1]),
     (2, CROSSED, [2, 1, 1], &[1, 0, 3, 1]),
     (3, STAR, [4, 1, 3], &[0, 1, 0, 1, 5, 1, 0, 1, 0]),
-    (3, &[1, 1, 1, 1, 0, 1, 1, 1, 1], [1, 2, 1], &[3, 0, 0, 0, 2, 0, 0, 0, 1]),
+    (3, HOLLOW, [1, 2, 1], &[3, 0, 0, 0, 2, 0, 0, 0, 1]),
+    (3, RUNS, [2, 1, 1], &[0, 0, 1, 0, 3, 0, 0, 1, 0]),
+];
+
+/// Side, heights, then for each post the codes of its ring, k and its mark.
+type Rings = (u32, &'static [i32], &'static [([u8; 8], u32, u32)]);
+const RINGS: [Rings; 5] = [
+    (
+        2,
+        FLAT,
+        &[
+            ([3, 2, 2, 2, 0, 0, 0, 0], 1, 0),
+            ([3, 2, 4, 0, 0, 0, 0, 0], 1, 0),
+            ([4, 2, 3, 0, 0, 0, 0, 0], 1, 0),
+            ([4, 3, 4, 4, 0, 0, 0, 0], 1, 1),
+        ],
+    ),
+    (
+        2,
+        CROSSED,
+        &[
+            ([3, 3, 3, 0, 0, 0, 0, 0], 1, 1),
+            ([3, 1, 2, 1, 0, 0, 0, 0], 1, 0),
+            ([1, 4, 1, 3, 0, 0, 0, 0], 2, 3),
+            ([3, 3, 3, 0, 0, 0, 0, 0], 1, 1),
+        ],
+    ),
+    (
+        3,
+        STAR,
+        &[
+            ([3, 1, 1, 1, 0, 0, 0, 0], 1, 0),
+            ([3, 3, 3, 3, 0, 0, 0, 0], 1, 1),
+            ([3, 1, 1, 1, 0, 0, 0, 0], 1, 0),
+            ([3, 3, 3, 3, 0, 0, 0, 0], 1, 1),
+            ([1, 3, 1, 3, 1, 3, 1, 3], 4, 5),
+            ([3, 3, 3, 3, 0, 0, 0, 0], 1, 1),
+            ([1, 1, 1, 3, 0, 0, 0, 0], 1, 0),
+            ([3, 3, 3, 3, 0, 0, 0, 0], 1, 1),
+            ([1, 3, 1, 1, 0, 0, 0, 0], 1, 0),
+        ],
+    ),
+    (
+        3,
+        HOLLOW,
+        &[
+            ([3, 2, 3, 2, 0, 0, 0, 0], 2, 3),
+            ([3, 2, 3, 4, 0, 0, 0, 0], 1, 0),
+            ([3, 2, 3, 4, 0, 0, 0, 0], 1, 0),
+            ([4, 3, 2, 3, 0, 0, 0, 0], 1, 0),
+            ([1, 1, 1, 1, 1, 1, 1, 1], 0, 2),
+            ([4, 3, 2, 3, 0, 0, 0, 0], 1, 0),
+            ([4, 3, 2, 3, 0, 0, 0, 0], 1, 0),
+            ([3, 2, 3, 4, 0, 0, 0, 0], 1, 0),
+            ([4, 3, 4, 3, 0, 0, 0, 0], 1, 1),
+        ],
+    ),
+    (
+        3,
+        RUNS,
+        &[
+            ([3, 1, 1, 1, 0, 0, 0, 0], 1, 0),
+            ([3, 1, 1, 1, 3, 0, 0, 0], 1, 0),
+            ([3, 3, 3, 0, 0, 0, 0, 0], 1, 1),
+            ([3, 1, 1, 1, 3, 0, 0, 0], 1, 0),
+            ([3, 1, 3, 1, 3, 3, 0, 0], 2, 3),
+            ([1, 3, 3, 3, 3, 0, 0, 0], 1, 0),
+            ([3, 1, 3, 0, 0, 0, 0, 0], 1, 0),
+            ([3, 3, 3, 3, 3, 0, 0, 0], 1, 1),
+            ([1, 3, 1, 1, 0, 0, 0, 0], 1, 0),
+        ],
+    ),
 ];
 
 /// Kind, side, heights, post, run, the list's length, then the code and the list.
@@ -29,6 +103,7 @@ const LINES: [Line; 4] = [
 pub fn bench_plots(t: &mut Tester) {
     t.group("bench plots");
     surveys(t);
+    rings(t);
     lines(t);
     files(t);
 }
@@ -44,6 +119,18 @@ fn surveys(t: &mut Tester) {
             law(answer[2..] == counts, "the counts", &call)?;
             law(left.marks == marks, "the marks", &call)
         }));
+    }
+}
+
+fn rings(t: &mut Tester) {
+    for (side, heights, rings) in RINGS {
+        for (post, &(codes, k, mark)) in (0..).zip(rings) {
+            let call = Call { post, ring: vec![9; 8], ..square(Kind::Ring, side, heights) };
+            t.case(t.agree(&call).and_then(|(answer, left)| {
+                law(left.ring == codes, "the codes", &call)?;
+                law(answer == [0, 0, k, mark], "k and the mark", &call)
+            }));
+        }
     }
 }
 

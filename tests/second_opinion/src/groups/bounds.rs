@@ -1,6 +1,6 @@
 //! Values and lengths at and beyond their bounds.
 
-use super::good;
+use super::{good, shows_mark};
 use crate::call::{Call, Kind, KINDS};
 use crate::opinion::file_of;
 use crate::plots::{ground, Chance};
@@ -96,7 +96,9 @@ pub fn heights(t: &mut Tester, chance: &mut Chance) {
 
 pub fn posts_and_runs(t: &mut Tester, chance: &mut Chance) {
     t.group("posts and runs at and beyond the end");
-    for kind in [Kind::Reshoot, Kind::NextDown, Kind::NextUp, Kind::Thalweg, Kind::Ridge] {
+    let kinds =
+        [Kind::Reshoot, Kind::Ring, Kind::NextDown, Kind::NextUp, Kind::Thalweg, Kind::Ridge];
+    for kind in kinds {
         for (rows, columns) in [(2, 2), (3, 4), (120, 120)] {
             let posts = (rows * columns) as u32;
             let sheet = ground("few heights", rows, columns, chance);
@@ -145,6 +147,7 @@ fn with_lengths(base: Call) -> Vec<Call> {
     match kind {
         Kind::NextDown | Kind::NextUp => calls,
         Kind::Survey | Kind::Reshoot => resized(calls, 9, |call| &mut call.marks),
+        Kind::Ring => resized(calls, 8, |call| &mut call.ring),
         Kind::Thalweg | Kind::Ridge => resized(calls, 9, |call| &mut call.line),
         Kind::ReadSurvey | Kind::WriteSurvey => resized(calls, file, |call| &mut call.file),
         Kind::DalesAndHills => {
@@ -183,10 +186,11 @@ pub fn other_shape(t: &mut Tester, chance: &mut Chance) {
         for (rows, columns) in [(2, 8), (8, 2)] {
             let mut call = good(Kind::Reshoot, rows, columns, &heights, chance);
             call.marks = left.marks.clone();
-            let outcome = t
-                .agree(&call)
-                .and_then(|(answer, _)| law(answer[0] == 0, "another shape is accepted", &call));
-            t.case(outcome);
+            t.case(t.agree(&call).and_then(|(answer, left)| {
+                law(answer[0] == 0, "another shape is accepted", &call)?;
+                let ring = good(Kind::Ring, rows, columns, &left.heights, chance);
+                shows_mark(t, &Call { post: call.post, ..ring }, &left.marks)
+            }));
         }
     }
 }

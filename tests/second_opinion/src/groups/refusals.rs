@@ -4,13 +4,14 @@ use super::good;
 use crate::call::{Call, Kind, KINDS};
 use crate::plots::{ground, Chance};
 use crate::surface::Plot;
-use crate::tester::{law, Tester};
+use crate::tester::{law, Outcome, Tester};
 
 /// The rows of the table that a call has a use for, the first that holds wins.
 fn table(kind: Kind) -> &'static [u32] {
     match kind {
         Kind::Survey | Kind::DalesAndHills | Kind::WriteSurvey => &[1, 2, 3, 4],
         Kind::Reshoot => &[1, 2, 3, 4, 5, 6],
+        Kind::Ring => &[1, 2, 3, 4, 5],
         Kind::NextDown | Kind::NextUp => &[1, 2, 4, 5],
         Kind::Thalweg | Kind::Ridge => &[1, 2, 4, 5, 7, 8, 9],
         Kind::ReadSurvey => &[10, 11, 1, 12, 3, 4],
@@ -79,6 +80,7 @@ fn spoil_sides(call: &mut Call, chance: &mut Chance) {
 fn spoil_lists(call: &mut Call, chance: &mut Chance) {
     match call.kind {
         Kind::Survey | Kind::Reshoot => resize(&mut call.marks, chance),
+        Kind::Ring => resize(&mut call.ring, chance),
         Kind::WriteSurvey => resize(&mut call.file, chance),
         Kind::ReadSurvey => resize(&mut call.heights, chance),
         _ => match chance.below(3) {
@@ -131,30 +133,62 @@ fn spoil_count(call: &mut Call, chance: &mut Chance) {
 pub fn refusals(t: &mut Tester, chance: &mut Chance, times: usize) {
     for kind in KINDS {
         t.group(&format!("{kind:?}: every set of refusals"));
-        let table = table(kind);
-        for set in 0..1 << table.len() {
+        for rows in sets(table(kind)) {
             for _ in 0..times {
-                let mut call = sheet_with_saddle(kind, chance);
-                let rows: Vec<u32> =
-                    (0..table.len()).filter(|i| set >> i & 1 == 1).map(|i| table[i]).collect();
-                // The upper rows last, so that none of the lower is undone.
-                let mut place = 0;
-                for &row in rows.iter().rev() {
-                    place = spoil(&mut call, row, chance);
-                }
-                let code = rows.first().copied().unwrap_or(0);
-                t.case(t.agree(&call).and_then(|(answer, left)| {
-                    law(answer[0] == code, "the upper row wins", &call)?;
-                    law(answer[1] == place, "the place", &call)?;
-                    if code != 0 {
-                        law(answer[2..].iter().all(|&v| v == 0), "other values are 0", &call)?;
-                        law(left == call, "no list changes", &call)?;
-                    }
-                    Ok(())
-                }));
+                let (call, place) = spoiled(kind, &rows, chance);
+                t.case(refused(t, &call, &rows, place));
             }
         }
     }
+}
+
+/// A ring's list at lengths about its own, and posts that no plot has, in every set.
+pub fn ring_lists(t: &mut Tester, chance: &mut Chance) {
+    t.group("Ring: lists and posts in every set of refusals");
+    for rows in sets(table(Kind::Ring)) {
+        for length in [0, 7, 9] {
+            for post in [65535, u32::MAX] {
+                let (mut call, place) = spoiled(Kind::Ring, &rows, chance);
+                if rows.contains(&3) {
+                    call.ring.resize(length, 9);
+                }
+                if rows.contains(&5) {
+                    call.post = post;
+                }
+                t.case(refused(t, &call, &rows, place));
+            }
+        }
+    }
+}
+
+/// Every set of a table's rows, the empty one included.
+fn sets(table: &[u32]) -> Vec<Vec<u32>> {
+    let rows_of = |set| (0..table.len()).filter(|i| set >> i & 1 == 1).map(|i| table[i]).collect();
+    (0..1 << table.len()).map(rows_of).collect()
+}
+
+/// A call of which these rows hold, and the place that it must be refused with.
+fn spoiled(kind: Kind, rows: &[u32], chance: &mut Chance) -> (Call, u32) {
+    let mut call = sheet_with_saddle(kind, chance);
+    let mut place = 0;
+    // The upper rows last, so that none of the lower is undone.
+    for &row in rows.iter().rev() {
+        place = spoil(&mut call, row, chance);
+    }
+    (call, place)
+}
+
+/// Turned away by the first of these rows; accepted where there is none.
+fn refused(t: &Tester, call: &Call, rows: &[u32], place: u32) -> Outcome {
+    let code = rows.first().copied().unwrap_or(0);
+    let (answer, left) = t.agree(call)?;
+    law(answer[0] == code, "the upper row wins", call)?;
+    law(answer[1] == place, "the place", call)?;
+    if code != 0 {
+        law(answer[2..].iter().all(|&v| v == 0), "other values are 0", call)?;
+        law(left == *call, "no list changes", call)?;
+    }
+    Ok(())
 }
 
 /// A good call; a line call for any run of any saddle.

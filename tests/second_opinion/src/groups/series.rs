@@ -1,15 +1,15 @@
 //! Series of re-shoots.
 
-use super::good;
 use super::refusals::spoil;
 use super::whole_plots::whole_plot;
+use super::{good, shows_mark};
 use crate::call::{Call, Kind};
 use crate::plots::{any_plot, ground, Chance, GROUNDS};
 use crate::surface::{counts, Plot};
 use crate::tester::{law, Outcome, Tester};
 
 /// Re-shoots after a survey, good and bad mixed. After each the heights are the
-/// plain list and the marks those of a fresh survey of it.
+/// plain list, the marks those of a fresh survey of it, and a ring shows one of them.
 fn one_series(
     t: &Tester,
     rows: usize,
@@ -26,7 +26,10 @@ fn one_series(
     for _ in 0..length {
         let mut call = good(Kind::Reshoot, rows, columns, &sheet.heights, chance);
         call.marks = sheet.marks;
-        choose_post_and_height(&mut call, near, chance);
+        choose_post(&mut call, near, chance);
+        if chance.one_in(2) {
+            call.height = plain[chance.below(plain.len())];
+        }
         let bad = chance.one_in(3);
         if bad {
             spoil_values(&mut call, chance);
@@ -36,11 +39,10 @@ fn one_series(
         }
         let (answer, left) = t.agree(&call)?;
         law((answer[0] == 0) != bad, "accepted or turned away", &call)?;
-        law(left.heights == plain, "the heights are the plain list", &call)?;
-        let fresh = Plot { rows, columns, heights: &plain }.marks();
-        law(left.marks == fresh, "the marks are those of a fresh survey", &call)?;
-        let [peaks, pits, saddles] = counts(&left.marks);
-        law(peaks + pits == saddles + 2, "the balance after a series", &call)?;
+        as_surveyed(&left, &Plot { rows, columns, heights: &plain }, &call)?;
+        let mut ring = good(Kind::Ring, rows, columns, &plain, chance);
+        choose_post(&mut ring, near, chance);
+        shows_mark(t, &ring, &left.marks)?;
         sheet = left;
     }
     let (answer, left) = t.agree(&good(Kind::Survey, rows, columns, &sheet.heights, chance))?;
@@ -49,16 +51,19 @@ fn one_series(
     whole_plot(t, rows, columns, &sheet.heights, 20, chance)
 }
 
-/// The post and height of a good re-shoot.
-fn choose_post_and_height(call: &mut Call, near: Option<usize>, chance: &mut Chance) {
-    let posts = call.heights.len();
+/// What a re-shoot left is what a survey of the plain list would be.
+fn as_surveyed(left: &Call, plain: &Plot, call: &Call) -> Outcome {
+    law(left.heights == plain.heights, "the heights are the plain list", call)?;
+    law(left.marks == plain.marks(), "the marks are those of a fresh survey", call)?;
+    let [peaks, pits, saddles] = counts(&left.marks);
+    law(peaks + pits == saddles + 2, "the balance after a series", call)
+}
+
+/// Stays about one post, if told to, so that the blocks overlap.
+fn choose_post(call: &mut Call, near: Option<usize>, chance: &mut Chance) {
     if let Some(start) = near {
-        // Stay about one post, so that the blocks overlap.
         let post = start + chance.below(3) * call.columns as usize + chance.below(3);
-        call.post = (post % posts) as u32;
-    }
-    if chance.one_in(2) {
-        call.height = call.heights[chance.below(posts)];
+        call.post = (post % call.heights.len()) as u32;
     }
 }
 

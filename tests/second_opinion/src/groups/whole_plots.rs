@@ -8,7 +8,7 @@ use crate::surface::{Plot, Way, VIRTUAL_PIT};
 use crate::tester::{law, Outcome, Tester};
 
 /// Everything about one plot. Of a plot with more than `most` posts only so
-/// many, by chance, are asked for their next posts and their lines.
+/// many, by chance, are asked for their rings, their next posts and their lines.
 pub fn whole_plot(
     t: &Tester,
     rows: usize,
@@ -22,6 +22,7 @@ pub fn whole_plot(
     let marks = survey(t, &plot, chance)?;
     let parted = parting(t, &plot, &marks, chance)?;
     let asked = if posts > most { chance.some(most, posts) } else { (0..posts).collect() };
+    rings(t, &plot, &marks, &asked, chance)?;
     for ((way, next, line), names) in WAYS.into_iter().zip([&parted.dales, &parted.hills]) {
         let steps = next_posts(t, &plot, way, good(next, rows, columns, heights, chance), &asked)?;
         if asked.len() == posts {
@@ -43,6 +44,48 @@ fn survey(t: &Tester, plot: &Plot, chance: &mut Chance) -> Result<Vec<u8>, Strin
     law(answer[0] == 0, "a survey is accepted", &call)?;
     law(answer[2] + answer[3] == answer[4] + 2, "peaks + pits - saddles = 2", &call)?;
     Ok(left.marks)
+}
+
+/// The ring of each that is asked is the grounds of the survey's mark.
+fn rings(t: &Tester, plot: &Plot, marks: &[u8], asked: &[usize], chance: &mut Chance) -> Outcome {
+    let mut call = good(Kind::Ring, plot.rows, plot.columns, plot.heights, chance);
+    let mut seen = [0; 5];
+    for &post in asked {
+        call.post = post as u32;
+        let (answer, left) = t.agree(&call)?;
+        let (codes, after) = left.ring.split_at(plot.ring(post).len());
+        law(answer[0] == 0, "a ring is accepted", &call)?;
+        law(codes.iter().all(|code| (1..=4).contains(code)), "a code for each member", &call)?;
+        law(after.iter().all(|&byte| byte == 0), "zeros after the last member", &call)?;
+        law(answer[2] == lower_runs(codes), "k is the number of lower runs", &call)?;
+        law(answer[3] == marks[post] as u32, "the mark is the survey's", &call)?;
+        for &code in codes {
+            seen[code as usize] += 1;
+        }
+    }
+    let all = asked.len() == plot.posts();
+    law(!all || from_both_ends(plot, seen), "every edge is seen from both its ends", &call)
+}
+
+/// How often each code is seen in a whole plot: an edge between posts once as above and
+/// once as below, both times by height or both by tie; the virtual pit from the border.
+fn from_both_ends(plot: &Plot, seen: [usize; 5]) -> bool {
+    let (rows, columns) = (plot.rows, plot.columns);
+    let sides = rows * (columns - 1) + (rows - 1) * columns;
+    let diagonals = (rows - 1) * (columns - 1);
+    let border = 2 * (rows + columns) - 4;
+    seen[1] + seen[2] == sides + diagonals && seen[3] == seen[1] + border && seen[4] == seen[2]
+}
+
+/// The lower runs of codes read as a circle.
+fn lower_runs(codes: &[u8]) -> u32 {
+    let below = |i: usize| codes[i % codes.len()] >= 3;
+    let starts = (0..codes.len()).filter(|&i| !below(i) && below(i + 1)).count() as u32;
+    if starts == 0 && below(0) {
+        1
+    } else {
+        starts
+    }
 }
 
 /// The dales and hills, named by the marked pits and peaks, each in one piece.
