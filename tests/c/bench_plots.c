@@ -38,14 +38,26 @@ typedef struct {
     int32_t heights[9];
     uint8_t marks[9];
     uint32_t peaks, pits, saddles;
+    const char *rings[9]; /* a digit for each member of a post's ring */
+    uint32_t k[9];
 } plot;
 
-static const plot flat = {"flat", 2, 2, {0, 0, 0, 0}, {0, 0, 0, 1}, 1, 1, 0};
-static const plot crossed = {"crossed", 2, 2, {5, 0, 0, 5}, {1, 0, 3, 1}, 2, 1, 1};
+static const plot flat = {"flat", 2, 2, {0, 0, 0, 0}, {0, 0, 0, 1}, 1, 1, 0,
+                          {"3222", "324", "423", "4344"}, {1, 1, 1, 1}};
+static const plot crossed = {"crossed", 2, 2, {5, 0, 0, 5}, {1, 0, 3, 1}, 2, 1, 1,
+                             {"333", "3121", "1413", "333"}, {1, 1, 2, 1}};
 static const plot star = {"star", 3, 3, {0, 2, 0, 2, 1, 2, 0, 2, 0},
-                          {0, 1, 0, 1, 5, 1, 0, 1, 0}, 4, 1, 3};
+                          {0, 1, 0, 1, 5, 1, 0, 1, 0}, 4, 1, 3,
+                          {"3111", "3333", "3111", "3333", "13131313", "3333", "1113", "3333",
+                           "1311"}, {1, 1, 1, 1, 4, 1, 1, 1, 1}};
 static const plot hollow = {"hollow", 3, 3, {1, 1, 1, 1, 0, 1, 1, 1, 1},
-                            {3, 0, 0, 0, 2, 0, 0, 0, 1}, 1, 2, 1};
+                            {3, 0, 0, 0, 2, 0, 0, 0, 1}, 1, 2, 1,
+                            {"3232", "3234", "3234", "4323", "11111111", "4323", "4323", "3234",
+                             "4343"}, {2, 1, 1, 1, 0, 1, 1, 1, 1}};
+static const plot runs = {"runs", 3, 3, {0, 3, 9, 2, 5, 7, 6, 8, 1},
+                          {0, 0, 1, 0, 3, 0, 0, 1, 0}, 2, 1, 1,
+                          {"3111", "31113", "333", "31113", "313133", "13333", "313", "33333",
+                           "1311"}, {1, 1, 1, 1, 2, 1, 1, 1, 1}};
 
 static size_t posts_of(const plot *p)
 {
@@ -103,6 +115,82 @@ static void reshoots(const plot *p)
     free(heights);
     free(marks);
     free(fresh);
+}
+
+enum { GUARD = 16, UNTOUCHED = 77 };
+
+/* Has the list between two guards these codes and zeros after them, or without codes its
+   old content? Are the guards as they were? */
+static int has_codes(const uint8_t *guarded, size_t length, const char *codes)
+{
+    size_t i, members = codes ? strlen(codes) : 0;
+
+    for (i = 0; i < length + 2 * GUARD; i++) {
+        int expected = UNTOUCHED;
+        if (codes && i >= GUARD && i < GUARD + length)
+            expected = i < GUARD + members ? codes[i - GUARD] - '0' : SN_NO_MEMBER;
+        if (guarded[i] != expected)
+            return 0;
+    }
+    return 1;
+}
+
+/* One ring into a list of some length; the codes expected, null where it is refused. */
+static void ring(const plot *p, uint32_t post, size_t length, uint32_t code, const char *codes,
+                 uint32_t k, uint32_t mark, const char *what)
+{
+    size_t n = posts_of(p);
+    int32_t *heights = (int32_t *)lent(n * sizeof *heights, p->heights);
+    uint8_t *list = (uint8_t *)lent(length + 2 * GUARD, NULL);
+    sn_ring_mark got;
+
+    memset(list, UNTOUCHED, length + 2 * GUARD);
+    got = sn_ring(p->rows, p->columns, heights, n, post, list + GUARD, length);
+    check(got.code == code && got.place == 0, what);
+    check(got.k == k && got.mark == mark, what);
+    check(has_codes(list, length, codes), what);
+    check(memcmp(heights, p->heights, n * sizeof *heights) == 0, what);
+    free(heights);
+    free(list);
+}
+
+/* The ring of every post, and of some that are not there. */
+static void rings(const plot *p)
+{
+    static const size_t lengths[3] = {0, SN_RING_LENGTH - 1, SN_RING_LENGTH + 1};
+    uint32_t post, n = (uint32_t)posts_of(p), beyond[3] = {0, SN_VIRTUAL_PIT, UINT32_MAX};
+    int i;
+
+    beyond[0] = n;
+    for (post = 0; post < n; post++)
+        ring(p, post, SN_RING_LENGTH, SN_OK, p->rings[post], p->k[post], p->marks[post], p->name);
+    for (i = 0; i < 3; i++) {
+        ring(p, 0, lengths[i], SN_BAD_LIST_LENGTH, NULL, 0, 0, "not eight bytes");
+        ring(p, beyond[i], lengths[i], SN_BAD_LIST_LENGTH, NULL, 0, 0, "the list before the post");
+        ring(p, beyond[i], SN_RING_LENGTH, SN_NO_SUCH_POST, NULL, 0, 0, "no ring without a post");
+    }
+}
+
+/* What else a ring is refused for, before its post is looked at. */
+static void refused_rings(void)
+{
+    static const int32_t heights[4] = {0, 0, SN_MAX_HEIGHT + 1, SN_MIN_HEIGHT - 1};
+    uint8_t guarded[SN_RING_LENGTH + 2 * GUARD], *list = guarded + GUARD;
+    sn_ring_mark got;
+
+    memset(guarded, UNTOUCHED, sizeof guarded);
+    got = sn_ring(2, 2, heights, 4, 4, list, SN_RING_LENGTH);
+    check(got.code == SN_HEIGHT_OUT_OF_RANGE && got.place == 2, "a height before the post");
+    check(got.k == 0 && got.mark == 0, "nothing of a refused ring");
+    got = sn_ring(2, 2, heights, 4, 4, NULL, 0);
+    check(got.code == SN_BAD_LIST_LENGTH && got.place == 0, "a list before the heights");
+    got = sn_ring(2, 2, heights, 3, 4, NULL, 0);
+    check(got.code == SN_BAD_HEIGHTS_LENGTH, "heights one short");
+    got = sn_ring(2, 2, NULL, 0, 4, list, SN_RING_LENGTH);
+    check(got.code == SN_BAD_HEIGHTS_LENGTH, "no heights");
+    got = sn_ring(1, 121, NULL, 0, 4, NULL, 0);
+    check(got.code == SN_BAD_SIDES, "sides before lists");
+    check(has_codes(guarded, SN_RING_LENGTH, NULL), "a refused ring leaves its list");
 }
 
 typedef sn_entries line_call(uint32_t, uint32_t, const int32_t *, size_t,
@@ -225,10 +313,14 @@ static void sides(void)
             uint8_t *marks = (uint8_t *)lent(n, NULL);
             sn_counts got = sn_survey(rows, columns, heights, n, marks, n);
             sn_answer shot = sn_reshoot(rows, columns, heights, n, marks, n, 0, 1);
+            uint8_t list[SN_RING_LENGTH];
+            sn_ring_mark last = sn_ring(rows, columns, heights, n, (uint32_t)n - 1, list,
+                                        SN_RING_LENGTH);
 
             check(got.code == (good ? (uint32_t)SN_OK : (uint32_t)SN_BAD_SIDES), "sides");
             check(got.peaks + got.pits == (good ? got.saddles + 2 : 0), "balance");
             check(shot.code == got.code && heights[0] == (good ? 1 : 0), "re-shoot");
+            check(last.code == got.code && last.mark == (good ? marks[n - 1] : 0), "ring");
             free(heights);
             free(marks);
         }
@@ -262,13 +354,15 @@ static void walks(void)
 
 int main(void)
 {
-    const plot *const plots[4] = {&flat, &crossed, &star, &hollow};
+    const plot *const plots[5] = {&flat, &crossed, &star, &hollow, &runs};
     int i;
 
-    for (i = 0; i < 4; i++) {
+    for (i = 0; i < 5; i++) {
         survey(plots[i]);
         reshoots(plots[i]);
+        rings(plots[i]);
     }
+    refused_rings();
     lines();
     files();
     sides();

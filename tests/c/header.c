@@ -1,6 +1,6 @@
 /*
- * What the header has beside the calls: version, sizes, codes in words, and what a
- * mark says. Compiles as C89 and later and as C++, and so without a C cast.
+ * What the header has beside the calls: version, sizes, codes in words, what a mark
+ * says, and a ring's codes. Compiles as C89 and later and as C++, and so without a C cast.
  */
 #include "surface_network.h"
 
@@ -81,6 +81,44 @@ static void lines_of(const int32_t *heights, uint32_t post, uint8_t mark)
     }
 }
 
+/* The numbers of a ring's codes, and its answer, which is four words and no more. */
+static void ring_alone(void)
+{
+    static const int lies[5] = {SN_NO_MEMBER, SN_ABOVE_BY_HEIGHT, SN_ABOVE_BY_TIE,
+                                SN_BELOW_BY_HEIGHT, SN_BELOW_BY_TIE};
+    int i;
+
+    for (i = 0; i < 5; i++)
+        check(lies[i] == i, "codes of members");
+    check(SN_RING_LENGTH == 8, "the bytes of a ring");
+    check(offsetof(sn_ring_mark, code) == 0 && offsetof(sn_ring_mark, place) == 4,
+          "code and place");
+    check(offsetof(sn_ring_mark, k) == 8 && offsetof(sn_ring_mark, mark) == 12, "k and mark");
+    check(sizeof(sn_ring_mark) == 16, "the size of a ring's answer");
+}
+
+/* A ring tells the mark, and by its codes the runs. */
+static void ring_of(const int32_t *heights, uint32_t post, uint8_t mark)
+{
+    uint8_t ring[SN_RING_LENGTH];
+    uint32_t i, members = 0, starts = 0, above = 0;
+    sn_ring_mark got = sn_ring(3, 3, heights, 9, post, ring, SN_RING_LENGTH);
+
+    while (members < SN_RING_LENGTH && ring[members] != SN_NO_MEMBER)
+        members++;
+    for (i = 0; i < members; i++) {
+        int before = ring[i ? i - 1 : members - 1] >= SN_BELOW_BY_HEIGHT;
+        int below = ring[i] >= SN_BELOW_BY_HEIGHT;
+        if (!below)
+            above++;
+        else if (!before)
+            starts++;
+    }
+    check(got.code == SN_OK && got.mark == mark, "a ring's mark");
+    check(got.k == (above ? starts : 1), "a ring's runs");
+    check(!SN_IS_SADDLE(mark) || got.k == SN_SADDLE_RUNS(mark), "a saddle's runs");
+}
+
 /* A plot whose middle has a mark. */
 static void marks_of(const int32_t *heights, uint8_t middle)
 {
@@ -91,6 +129,7 @@ static void marks_of(const int32_t *heights, uint8_t middle)
     check(counts.code == SN_OK && marks[4] == middle, "the middle's mark");
     for (post = 0; post < 9; post++) {
         sum += SN_MULTIPLICITY(marks[post]);
+        ring_of(heights, post, marks[post]);
         lines_of(heights, post, marks[post]);
     }
     check(sum == counts.saddles, "multiplicities make the count");
@@ -107,6 +146,7 @@ int main(void)
     version();
     codes();
     marks_alone();
+    ring_alone();
     marks_of(two, SN_SADDLE_1);
     marks_of(three, SN_SADDLE_2);
     marks_of(four, SN_SADDLE_3);

@@ -8,10 +8,10 @@
 #include <string.h>
 #include <ucontext.h>
 
-enum { SIDE = 120, POSTS = SIDE * SIDE, BOUND = 2048, PATTERN = 0xa5 };
+enum { SIDE = 120, POSTS = SIDE * SIDE, BOUND = 2048, PATTERN = 0xa5, CALLS = 10 };
 
 static int32_t heights[POSTS];
-static uint8_t marks[POSTS], file[SN_MAX_FILE], stack[1 << 16];
+static uint8_t marks[POSTS], ring[SN_RING_LENGTH], file[SN_MAX_FILE], stack[1 << 16];
 static uint16_t line[SN_MAX_LINE], dales[POSTS], hills[POSTS];
 static uint32_t post, code;
 static ucontext_t here, there;
@@ -24,6 +24,11 @@ static void survey(void)
 static void reshoot(void)
 {
     code = sn_reshoot(SIDE, SIDE, heights, POSTS, marks, POSTS, post, heights[post]).code;
+}
+
+static void ring_of_post(void)
+{
+    code = sn_ring(SIDE, SIDE, heights, POSTS, post, ring, SN_RING_LENGTH).code;
 }
 
 static void next_down(void)
@@ -64,8 +69,8 @@ static void read_file(void)
 static const struct {
     const char *name;
     void (*call)(void);
-} calls[9] = {
-    {"survey", survey}, {"re-shoot", reshoot}, {"next down", next_down},
+} calls[CALLS] = {
+    {"survey", survey}, {"re-shoot", reshoot}, {"ring", ring_of_post}, {"next down", next_down},
     {"next up", next_up}, {"thalweg", thalweg}, {"ridge", ridge},
     {"dales and hills", parts}, {"write", write_file}, {"read", read_file}
 };
@@ -109,7 +114,7 @@ int main(void)
 
     for (k = 0; k < 3; k++) {
         fill(kinds[k]);
-        for (i = 0; i < 9; i++) {
+        for (i = 0; i < CALLS; i++) {
             code = SN_BAD_COUNT;
             bytes = taken(calls[i].call);
             most = bytes > most ? bytes : most;
