@@ -1,13 +1,14 @@
 //! Compares the library, through its C calls, with an implementation written
 //! apart from it, from docs/SPECIFICATION.md alone.
 //!
-//!     second_opinion [--long] [--seed N] [--stop] [--lister PROGRAM]
+//!     second_opinion [--long] [--seed N] [--stop] [--only KIND] [--lister PROGRAM]
 //!     second_opinion --list <FILE
 //!
 //! With --lister it compares the listing program instead; with --list it prints its
 //! own listing of a survey file.
 //! --long tries some twenty times as much, from another seed each time, unless one
-//! is given; --stop ends at the first failure.
+//! is given; --stop ends at the first failure; --only asks the library for calls of one
+//! kind, as call.rs names it, and takes the second opinion's word for the others.
 //!
 //! Prints `N passed, M failed` last; a case is one plot, one call that is
 //! refused or at a bound, one series or one file.
@@ -39,8 +40,12 @@ fn main() {
         None if long => std::time::UNIX_EPOCH.elapsed().unwrap().as_secs(),
         None => 1,
     };
+    let only = after("--only").map(|name| {
+        let named = |kind: &call::Kind| format!("{kind:?}") == *name;
+        call::KINDS.into_iter().find(named).expect("--only takes a kind of call")
+    });
     println!("seed {seed}");
-    let mut tester = tester::Tester::new(stop);
+    let mut tester = tester::Tester::new(stop, only);
     let mut chance = plots::Chance(seed);
     match after("--lister") {
         Some(lister) => {

@@ -1,6 +1,6 @@
 //! Counting, comparing and telling what failed.
 
-use crate::call::Call;
+use crate::call::{Call, Kind};
 use crate::library::{Edge, Library};
 use std::ffi::c_int;
 use std::ptr::null_mut;
@@ -34,12 +34,14 @@ pub struct Tester {
     shown: u32,
     /// End at the first failure.
     stop: bool,
+    /// Ask the library for calls of this kind alone.
+    only: Option<Kind>,
 }
 
 pub type Outcome = Result<(), String>;
 
 impl Tester {
-    pub fn new(stop: bool) -> Tester {
+    pub fn new(stop: bool, only: Option<Kind>) -> Tester {
         const ILL: c_int = 4;
         const ABORT: c_int = 6;
         const BUS: c_int = 7;
@@ -55,6 +57,7 @@ impl Tester {
             at_start: 0,
             shown: 0,
             stop,
+            only,
         }
     }
 
@@ -102,6 +105,9 @@ impl Tester {
     pub fn agree(&self, call: &Call) -> Result<(Vec<u32>, Call), String> {
         let mut expected = call.clone();
         let answer = expected.by_opinion();
+        if self.only.is_some_and(|only| only != call.kind) {
+            return Ok((answer, expected));
+        }
         for edge in [Edge::Start, Edge::End, Edge::Null] {
             if edge == Edge::Null && !call.lends_empty() {
                 continue;
