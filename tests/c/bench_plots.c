@@ -1,7 +1,8 @@
 /*
  * "Example plots" of docs/SPECIFICATION.md through the C calls. Compiles as C99 and
  * as C++. Every list is its own piece of the heap, exactly as long as lent, so that
- * a memory checker sees a byte too many.
+ * a memory checker sees a byte too many; a ring's lies between guards, which are
+ * looked at, so that it needs no checker.
  */
 #include "surface_network.h"
 
@@ -158,10 +159,9 @@ static void ring(const plot *p, uint32_t post, size_t length, uint32_t code, con
 static void rings(const plot *p)
 {
     static const size_t lengths[3] = {0, SN_RING_LENGTH - 1, SN_RING_LENGTH + 1};
-    uint32_t post, n = (uint32_t)posts_of(p), beyond[3] = {0, SN_VIRTUAL_PIT, UINT32_MAX};
+    uint32_t post, n = (uint32_t)posts_of(p), beyond[3] = {n, SN_VIRTUAL_PIT, UINT32_MAX};
     int i;
 
-    beyond[0] = n;
     for (post = 0; post < n; post++)
         ring(p, post, SN_RING_LENGTH, SN_OK, p->rings[post], p->k[post], p->marks[post], p->name);
     for (i = 0; i < 3; i++) {
