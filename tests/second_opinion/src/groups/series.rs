@@ -24,9 +24,8 @@ fn one_series(
     let near = chance.one_in(2).then_some(start);
     let mut accepted = 0;
     for _ in 0..length {
-        let mut call = good(Kind::Reshoot, rows, columns, &sheet.heights, chance);
-        call.marks = sheet.marks;
-        choose_post(&mut call, near, chance);
+        let call = good(Kind::Reshoot, rows, columns, &sheet.heights, chance);
+        let mut call = Call { marks: sheet.marks, ..about(near, call, chance) };
         if chance.one_in(2) {
             call.height = plain[chance.below(plain.len())];
         }
@@ -40,9 +39,8 @@ fn one_series(
         let (answer, left) = t.agree(&call)?;
         law((answer[0] == 0) != bad, "accepted or turned away", &call)?;
         as_surveyed(&left, &Plot { rows, columns, heights: &plain }, &call)?;
-        let mut ring = good(Kind::Ring, rows, columns, &plain, chance);
-        choose_post(&mut ring, near, chance);
-        shows_mark(t, &ring, &left.marks)?;
+        let ring = good(Kind::Ring, rows, columns, &plain, chance);
+        shows_mark(t, &about(near, ring, chance), &left.marks)?;
         sheet = left;
     }
     let (answer, left) = t.agree(&good(Kind::Survey, rows, columns, &sheet.heights, chance))?;
@@ -59,12 +57,13 @@ fn as_surveyed(left: &Call, plain: &Plot, call: &Call) -> Outcome {
     law(peaks + pits == saddles + 2, "the balance after a series", call)
 }
 
-/// Stays about one post, if told to, so that the blocks overlap.
-fn choose_post(call: &mut Call, near: Option<usize>, chance: &mut Chance) {
+/// The call about one post, if there is one to stay near, so that the blocks overlap.
+fn about(near: Option<usize>, mut call: Call, chance: &mut Chance) -> Call {
     if let Some(start) = near {
         let post = start + chance.below(3) * call.columns as usize + chance.below(3);
         call.post = (post % call.heights.len()) as u32;
     }
+    call
 }
 
 /// Makes a re-shoot bad in anything but its two lists.
