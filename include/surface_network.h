@@ -267,8 +267,8 @@ sn_answer sn_reshoot(uint32_t rows, uint32_t columns,
  *
  * Reads   heights, rows * columns of them.
  * Writes  ring, exactly SN_RING_LENGTH bytes: a code for each member from the front,
- *         without gaps, then SN_NO_MEMBER. Taken as a circle, the codes from
- *         SN_BELOW_BY_HEIGHT on make k runs.
+ *         without gaps, then SN_NO_MEMBER. The codes before it, taken as a circle,
+ *         have k runs of SN_BELOW_BY_HEIGHT and SN_BELOW_BY_TIE.
  * Answers SN_OK, or in this order
  *   SN_BAD_SIDES
  *   SN_BAD_HEIGHTS_LENGTH

@@ -84,12 +84,12 @@ static void lines_of(const int32_t *heights, uint32_t post, uint8_t mark)
 /* The numbers of a ring's codes, and its answer, which is four words and no more. */
 static void ring_alone(void)
 {
-    static const int lies[5] = {SN_NO_MEMBER, SN_ABOVE_BY_HEIGHT, SN_ABOVE_BY_TIE,
-                                SN_BELOW_BY_HEIGHT, SN_BELOW_BY_TIE};
+    static const int stands[5] = {SN_NO_MEMBER, SN_ABOVE_BY_HEIGHT, SN_ABOVE_BY_TIE,
+                                  SN_BELOW_BY_HEIGHT, SN_BELOW_BY_TIE};
     int i;
 
     for (i = 0; i < 5; i++)
-        check(lies[i] == i, "codes of members");
+        check(stands[i] == i, "codes of members");
     check(SN_RING_LENGTH == 8, "the bytes of a ring");
     check(offsetof(sn_ring_mark, code) == 0 && offsetof(sn_ring_mark, place) == 4,
           "code and place");

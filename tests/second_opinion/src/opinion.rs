@@ -114,7 +114,7 @@ pub fn ring(rows: u32, columns: u32, heights: &[i32], post: u32, list: &mut [u8]
         let post = post as usize;
         list.fill(0);
         for (byte, member) in list.iter_mut().zip(plot.ring(post)) {
-            *byte = plot.lies(member, post);
+            *byte = plot.stands(member, post);
         }
         let k = plot.runs(post, Way::Down).len();
         Ok(vec![k as u32, plot.mark(post) as u32])

@@ -111,9 +111,9 @@ impl Plot<'_> {
         ring
     }
 
-    /// How a member of the ring lies to the post: 1 above by height, 2 above by tie,
+    /// How a member of the ring stands to the post: 1 above by height, 2 above by tie,
     /// 3 below by height, 4 below by tie. The virtual pit has no height to be equal.
-    pub fn lies(&self, member: usize, post: usize) -> u8 {
+    pub fn stands(&self, member: usize, post: usize) -> u8 {
         let tie = member != VIRTUAL_PIT && self.heights[member] == self.heights[post];
         match (self.below(member, post), tie) {
             (false, false) => 1,
