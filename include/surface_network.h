@@ -146,10 +146,10 @@ enum {
     SN_BELOW_BY_TIE = 4     /* equal heights, and below in the height order */
 };
 
-/* No ring has more members, and the list that sn_ring writes has exactly these bytes. */
+/* No ring has more members, and the list that sn_ring writes has exactly so many bytes. */
 #define SN_RING_LENGTH 8
 
-/* Codes. */
+/* Codes of answers. */
 enum {
     SN_OK = 0,
     SN_BAD_SIDES = 1,           /* rows or columns outside 2 to 120 */
@@ -167,7 +167,7 @@ enum {
                                    it, or not 2 + 4 * rows * columns */
 };
 
-/* A code in words, for a message. Never null; the text lives as long as the program. */
+/* The code of an answer in words, for a message. Never null; the text lives as long as the program. */
 SN_INLINE const char *sn_code_text(uint32_t code)
 {
     switch (code) {
@@ -203,7 +203,7 @@ typedef struct sn_counts {
 
 typedef struct sn_ring_mark {
     uint32_t code, place;
-    uint32_t k;    /* the post's lower runs: 1 at a peak, whose ring is all below; 0 at a pit */
+    uint32_t k;    /* lower runs: 1 at a peak, whose ring is all below, 0 at a pit */
     uint32_t mark; /* what sn_survey writes at the post */
 } sn_ring_mark;
 

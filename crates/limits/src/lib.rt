@@ -80,7 +80,7 @@ pub fn heights_verdict(heights: &[i32]) -> Answer
     }
 }
 
-// Rows 1, 2, 4 and 5, which lead the calls that start from a post.
+// Rows 1, 2, 4 and 5, which the calls that start from a post look at.
 pub fn post_verdict(rows: u32, columns: u32, heights: &[i32], post: u32) -> Answer
     ensures { λ r. ⌜ r ≡ verdict (row1 rows columns ∷ row2 (plot rows columns (now (heights .entry))) ∷ row4 isHeight (now (heights .entry)) ∷ row5 (plot rows columns (now (heights .entry))) post ∷ []) ⌝ }
 {

@@ -19,7 +19,7 @@ use Rattle.surface.proofs.General.FirstNot.{ranged-all}
 use Rattle.surface.proofs.AnyOrder.Grid.{test-sides}
 use Rattle.surface.proofs.AnyOrder.RunMembers.{runs-run}
 use Rattle.surface.proofs.AnyOrder.Walks.{Falling, line-falls}
-use Rattle.surface.proofs.OfCalls.Verdicts.{passed, row-holds, row-passed, none-left, leads-refused, leads-passed}
+use Rattle.surface.proofs.OfCalls.Verdicts.{code, passed, row-holds, row-passed, none-left, leads-refused, leads-passed}
 
 -- rows 1, 2, 4 and 5
 abbrev pub postRows : Plot → ℕ → List Row
@@ -58,7 +58,7 @@ module _ (pl : Plot) (d : Descent) (post run : ℕ) (list : List ℕ) where
   pub no-post : (a : Answer) → a ≡ verdict (postRows pl post) → (a .code ≡ 0 → ⊥)
       → Outcome (record { code = a .code; place = a .place; count = 0 }) list
   unfolding lineVerdict
-  no-post a e h = refused (a .code) (a .place) h (leads-refused (postRows pl post) lineRows tt (λ k. h (ap (λ (x : Answer). x .code) e ∙ k)) ∙ sym e)
+  no-post a e h = refused (a .code) (a .place) h (leads-refused (postRows pl post) lineRows tt (λ k. h (code e ∙ k)) ∙ sym e)
 
   module _ (z : verdict (postRows pl post) .code ≡ 0) where
     rows-left : lineVerdict pl d post run list ≡ verdict lineRows

@@ -9,7 +9,7 @@ ghost use mathlib.Core.Path.{_≡_};
 ghost use lib.ListN.{length, getD};
 ghost use Rattle.surface.specs.Plot.{plotOf, posts, Vertex, PostOf};
 ghost use Rattle.surface.specs.Edges.{ringOf};
-ghost use Rattle.surface.specs.Codes.{memberCode, codesOf, ringBytes};
+ghost use Rattle.surface.specs.Codes.{memberCode, codesOf, ringLength, ringBytes};
 ghost use Rattle.post.specs.Rings.{Holds};
 
 // Vertex q as seen from p: 1 above it, 3 below it, and one more where their heights are equal.
@@ -36,7 +36,7 @@ fn code_at(heights: &[i32], grid: Grid, p: usize, ring: Ring, i: usize) -> u8
 
 // Writes the codes of p's ring from the front, and zeros after them.
 pub(crate) fn put_codes(heights: &[i32], grid: Grid, p: usize, list: &mut [u8])
-    requires { ⌜ PostOf (plotOf grid (now heights)) p × (length (now list) ≡ 8) ⌝ }
+    requires { ⌜ PostOf (plotOf grid (now heights)) p × (length (now list) ≡ ringLength) ⌝ }
     ensures { λ _. ⌜ now (list .exit) ≡ ringBytes (plotOf grid (now (heights .entry))) p ⌝ }
 {
     let ring = ring_at(heights, grid, p);

@@ -32,7 +32,7 @@ fn ring_verdict(rows: u32, columns: u32, heights: &[i32], post: u32, ring: &[u8]
 }
 
 // The lower runs of a post that has this mark.
-fn runs_of(mark: u8) -> u32
+fn runs_for(mark: u8) -> u32
     ensures { λ r. ⌜ r ≡ runsFor mark ⌝ }
 {
     if mark < SADDLE {
@@ -66,7 +66,7 @@ pub fn ring(rows: u32, columns: u32, heights: &[i32], post: u32, ring: &mut [u8]
     RingMark {
         code: 0,
         place: 0,
-        k: runs_of(mark),
+        k: runs_for(mark),
         mark: mark as u32,
     }
 }

@@ -1,5 +1,5 @@
--- Between the definitions and the code: the mark of a post by which of the eight posts round it are below it, joined to it or not. (The calls' promises
--- do not speak of it.) Beyond a border is the virtual pit, which is below.
+-- Between the definitions and the code: the mark of a post by which of the eight posts round it are below it, joined to it or not, and the lower runs
+-- that a mark tells of. (The calls' promises do not speak of these.) Beyond a border is the virtual pit, which is below.
 use Prim.Native.Nat.{ℕ, _+_, _-_}
 use mathlib.Core.Bool.{Bool, cond, not, _&&_, _||_}
 use lib.Dec.{ltb, eqb}

@@ -1,43 +1,32 @@
 -- What an accepted ring call shows, over the outcomes of the calls: the grounds of a mark.
 use Prim.Native.Nat.{ℕ, _-_, _<_}
 use mathlib.Core.Path.{_≡_}
-use mathlib.Core.Bool.{Bool, true, not}
-use mathlib.Core.Logic.{_≢_}
+use mathlib.Core.Bool.{not}
 use mathlib.Core.List.{List, _++_}
-use lib.Dec.{leb, ltb}
-use lib.Signed.{ltZ}
+use lib.Dec.{ltb}
 use lib.ListN.{length, getD, replicate}
 use Rattle.surface.specs.Lists.{filter, any, all}
-use Rattle.surface.specs.Plot.{Plot, posts, height, virtualPit, below}
+use Rattle.surface.specs.Plot.{Plot, posts}
 use Rattle.surface.specs.Edges.{ringOf, runs}
 use Rattle.surface.specs.Marks.{markFor}
+use Rattle.surface.specs.Codes.{ringLength, saysBelow, Says}
 use Rattle.surface.specs.Calls.{surveyAnswer, surveyMarks, ringAnswer, ringList}
 
 -- the codes in a list: those that are not zero
 abbrev pub codesIn : List ℕ → List ℕ
 codesIn bytes = filter (λ c. ltb 0 c) bytes
 
--- 3 and 4 say that a member is below, 1 and 2 that it is above
-abbrev pub saysBelow : ℕ → Bool
-saysBelow c = leb 3 c
-
--- what each code says of q as seen from post p
-pub data Says (pl : Plot) (p q : ℕ) : ℕ → Type 0 where
-  aboveByHeight : q ≢ virtualPit → ltZ (height pl p) (height pl q) ≡ true → Says pl p q 1
-  aboveByTie : q ≢ virtualPit → height pl q ≡ height pl p → below pl p q ≡ true → Says pl p q 2
-  belowByHeight : q ≢ virtualPit → ltZ (height pl q) (height pl p) ≡ true → Says pl p q 3
-  thePit : q ≡ virtualPit → Says pl p q 3
-  belowByTie : q ≢ virtualPit → height pl q ≡ height pl p → below pl q p ≡ true → Says pl p q 4
-
 -- of a post, in the outcome of the call: its answer's k and mark, and the eight bytes that it left
 pub record Grounds (pl : Plot) (post k mark : ℕ) (bytes : List ℕ) : Type 0 where
   -- the mark is the one that a survey of the same heights writes at that post, whatever marks are lent to it
   pub surveyed : (marks : List ℕ) → length marks ≡ posts pl
       → (surveyAnswer pl marks .code ≡ 0) × (post < length (surveyMarks pl marks)) × (getD (surveyMarks pl marks) post 0 ≡ mark)
-  -- each code says how its member stands to the post, in the ring's order; the codes number the ring's members, and are at the front, with zeros after
+  -- each code says how its member stands to the post, in the ring's order; the codes number the ring's members, and are at the front, with zeros
+  -- after, eight bytes in all
   pub says : (i : ℕ) → i < length (ringOf pl post) → Says pl post (getD (ringOf pl post) i 0) (getD (codesIn bytes) i 0)
   pub number : length (codesIn bytes) ≡ length (ringOf pl post)
-  pub front : bytes ≡ codesIn bytes ++ replicate (8 - length (codesIn bytes)) 0
+  pub front : bytes ≡ codesIn bytes ++ replicate (ringLength - length (codesIn bytes)) 0
+  pub size : length bytes ≡ ringLength
   -- k is the number of lower runs of the codes read as a circle: at a peak 1, at a pit 0
   pub runsOfCodes : k ≡ length (runs saysBelow (codesIn bytes))
   pub atPeak : mark ≡ 1 → k ≡ 1

@@ -71,7 +71,7 @@ unfoldable pub below : Plot → ℕ → ℕ → Bool
 below pl p q =
     not (eqb q virtualPit) && (eqb p virtualPit || (ltZ (height pl p) (height pl q) || (not (ltZ (height pl q) (height pl p)) && ltb p q)))
 
--- two posts have one height, so that the order between them is a tie's; the virtual pit has none
+-- two posts have equal heights, so that the tie rule orders them; the virtual pit has no height
 abbrev pub tied : Plot → ℕ → ℕ → Bool
 tied pl p q =
     not (eqb p virtualPit || eqb q virtualPit) && not (ltZ (height pl p) (height pl q) || ltZ (height pl q) (height pl p))

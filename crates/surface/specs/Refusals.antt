@@ -8,6 +8,7 @@ use lib.ListN.{length, getD}
 use Rattle.surface.specs.Lists.{firstNot}
 use Rattle.surface.specs.Plot.{Plot, posts, isSide, isHeight}
 use Rattle.surface.specs.Marks.{markAt}
+use Rattle.surface.specs.Codes.{ringLength}
 use Rattle.surface.specs.Lines.{Descent, runsOf, line}
 use Rattle.surface.specs.SurveyFile.{statedCount, countFor, fileSize, isTenths, tenthsOf}
 use Rattle.surface.specs.declared.Answer.{Answer}
@@ -113,7 +114,7 @@ module _ (pl : Plot) where
       verdict
       (row1 pl.rows pl.columns
       ∷ row2 pl
-      ∷ row3 ring 8
+      ∷ row3 ring ringLength
       ∷ row4 isHeight pl.heights
       ∷ row5 pl post
       ∷ [])

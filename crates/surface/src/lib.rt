@@ -13,7 +13,9 @@ pub const HIGHEST: i32 = 1000000;
 // The virtual pit, as lists and answers have it.
 pub const VIRTUAL_PIT: usize = 65535;
 
-// The mark of a pit, and the first mark of a saddle.
+// The marks of a peak and of a pit, and the first mark of a saddle.
+pub const PEAK: u8 = 1;
+
 pub const PIT: u8 = 2;
 
 pub const SADDLE: u8 = 3;

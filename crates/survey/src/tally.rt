@@ -1,4 +1,6 @@
 // The three counts of a list of marks. They are made in parts: those of 240 marks fit a byte, or two bytes, of which vector code adds many at a time.
+use surface::PEAK;
+use surface::PIT;
 ghost use mathlib.Core.Path.{_≡_};
 ghost use mathlib.Core.List.{map};
 ghost use Prim.Native.Nat.{_+_, _-_, _*_, _≤_, min};
@@ -8,11 +10,6 @@ ghost use Rattle.surface.specs.Lists.{one, count, total};
 ghost use Rattle.surface.specs.Plot.{maxPosts};
 ghost use Rattle.surface.specs.Marks.{multiplicity};
 ghost use Rattle.survey.specs.Tally.{Counted};
-
-// The marks of a peak and of a pit.
-const PEAK: u8 = 1;
-
-const PIT: u8 = 2;
 
 pub(crate) struct Tally {
     pub peaks: u32,

@@ -38,7 +38,7 @@ returns-2 c =
     let at = c .before .before .before .before .before .before in
     let s = ring-served _ _ _ (passed at) in
     let m = c .before .mark-at .ensures in
-    let k = c .runs-of .ensures ∙ ap runsFor m ∙ sym (mark-runs _ _ (accepted at .postOf)) in
+    let k = c .runs-for .ensures ∙ ap runsFor m ∙ sym (mark-runs _ _ (accepted at .postOf)) in
     (rw (k, m) (sym (s .0)), c .before .before .before .before .put-codes .ensures ∙ sym (s .1))
 
 pub ring-spec : {M : Type 1} → statement M

@@ -113,7 +113,7 @@ module _ (rows columns : ℕ) (falls : ℕ → Bool) where
   unfolding ring
   ring-place p q = (λ m. among-place p q (members-among (places rows columns falls p) m), λ h. among-members (places rows columns falls p) (place-among p q h))
 
-  -- and eight places
+  -- a ring has at most eight members
   pub ring-short : (p : ℕ) → length (ring rows columns falls p) ≤ 8
   unfolding ring places
   ring-short p = members-short (places rows columns falls p)

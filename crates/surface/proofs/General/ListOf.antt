@@ -1,4 +1,4 @@
--- Laws of lists made by `listOf`, and of counting.
+-- Laws of lists made by `listOf`, of counting, and of elements by their places: members, maps, lists filled up and filtered.
 use Prim.Native.Nat.{ℕ, zero, suc, _+_, _-_, _≤_, _<_}
 use native.Mathlib.Omega.{arith}
 use native.Mathlib.Numerals.{add-one}

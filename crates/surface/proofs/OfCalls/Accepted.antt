@@ -11,6 +11,7 @@ use lib.ListN.{length, getD}
 use Rattle.surface.specs.Lists.{firstNot}
 use Rattle.surface.specs.Plot.{Plot, posts, isHeight, Sides, Valid, PostOf}
 use Rattle.surface.specs.Marks.{markAt}
+use Rattle.surface.specs.Codes.{ringLength}
 use Rattle.surface.specs.Lines.{Descent, runsOf, line}
 use Rattle.surface.specs.SurveyFile.{statedCount, countFor, fileSize, isTenths, tenthsOf}
 use Rattle.surface.specs.Refusals.{accepted, verdict, row1, row2, row4, surveyVerdict, reshootVerdict, ringVerdict, lineVerdict, partsVerdict, readVerdict, writeVerdict}
@@ -65,7 +66,7 @@ module _ (pl : Plot) where
   -- a ring of a post, into eight bytes
   pub record ForRing (post : ℕ) (ring : List ℕ) : Type 0 where
     pub postOf : PostOf pl post
-    pub size : length ring ≡ 8
+    pub size : length ring ≡ ringLength
 
   pub ring-valid : (post : ℕ) (ring : List ℕ) → ringVerdict pl post ring .code ≡ 0 → ForRing post ring
   unfolding ringVerdict

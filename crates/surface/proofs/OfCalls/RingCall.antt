@@ -8,7 +8,7 @@ use lib.ListN.{length, getD, replicate}
 use Rattle.surface.specs.Plot.{Plot, posts, PostOf}
 use Rattle.surface.specs.Marks.{markAt, marksOf}
 use Rattle.surface.specs.Flags.{runsFor}
-use Rattle.surface.specs.Codes.{codesOf, ringBytes, runsBelow}
+use Rattle.surface.specs.Codes.{codesOf, ringLength, ringBytes, runsBelow}
 use Rattle.surface.specs.Refusals.{ringVerdict}
 use Rattle.surface.specs.Calls.{surveyAnswer, surveyMarks, ringAnswer, ringList}
 use Rattle.surface.specs.Grounds.{codesIn, Grounds, RingGrounds}
@@ -38,12 +38,16 @@ module _ (pl : Plot) (post : ℕ) (ring : List ℕ) where
 
 module _ (pl : Plot) (p : ℕ) where
   -- the eight bytes are the codes and then zeros
-  bytes-are : ringBytes pl p ≡ codesOf pl p ++ replicate (8 - length (codesOf pl p)) 0
+  bytes-are : ringBytes pl p ≡ codesOf pl p ++ replicate (ringLength - length (codesOf pl p)) 0
   unfolding ringBytes
-  bytes-are = listOf-padded (codesOf pl p) 8 0 (codes-short pl p)
+  bytes-are = listOf-padded (codesOf pl p) ringLength 0 (codes-short pl p)
+
+  bytes-size : length (ringBytes pl p) ≡ ringLength
+  unfolding ringBytes
+  bytes-size = length-listOf _ ringLength
 
   bytes-codes : codesIn (ringBytes pl p) ≡ codesOf pl p
-  bytes-codes = rw bytes-are (filter-padded (λ c. ltb 0 c) (codesOf pl p) (8 - length (codesOf pl p)) 0 (codes-some pl p) refl)
+  bytes-codes = rw bytes-are (filter-padded (λ c. ltb 0 c) (codesOf pl p) (ringLength - length (codesOf pl p)) 0 (codes-some pl p) refl)
 
   module _ (post : PostOf pl p) where
     -- a survey writes the mark
@@ -62,6 +66,7 @@ module _ (pl : Plot) (p : ℕ) where
           says = rw bytes-codes (codes-say pl p post);
           number = rw bytes-codes (codes-number pl p);
           front = rw bytes-codes bytes-are;
+          size = bytes-size;
           runsOfCodes = rw bytes-codes (codes-runs pl p);
           atPeak = λ e. mark-runs pl p post ∙ ap runsFor e;
           atPit = λ e. mark-runs pl p post ∙ ap runsFor e;

@@ -13,8 +13,7 @@ use Rattle.surface.specs.Plot.{Plot, height, virtualPit, below, tied, Po
 use Rattle.surface.specs.Edges.{fallsIn, members, places, ring, ringOf, runs}
 use Rattle.surface.specs.Marks.{markFor, mark, markAt}
 use Rattle.surface.specs.Flags.{runsFor}
-use Rattle.surface.specs.Codes.{codeFor, memberCode, codesOf, runsBelow}
-use Rattle.surface.specs.Grounds.{saysBelow, Says, aboveByHeight, aboveByTie, belowByHeight, thePit, belowByTie}
+use Rattle.surface.specs.Codes.{codeFor, memberCode, codesOf, ringLength, runsBelow, saysBelow, Says, aboveByHeight, aboveByTie, belowByHeight, thePit, belowByTie}
 use Rattle.surface.proofs.General.Bools.{either}
 use Rattle.surface.proofs.General.ListOf.{getD-member, getD-mapped}
 use Rattle.surface.proofs.AnyOrder.Grid.{not-pit}
@@ -76,7 +75,7 @@ module _ (pl : Plot) (p : ℕ) where
   unfolding codesOf
   codes-number = length-map (ringOf pl p) (memberCode pl p)
 
-  pub codes-short : length (codesOf pl p) ≤ 8
+  pub codes-short : length (codesOf pl p) ≤ ringLength
   unfolding ringOf
   codes-short = rw codes-number (ring-short pl.rows pl.columns (fallsIn pl) p)
 

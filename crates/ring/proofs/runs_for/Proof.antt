@@ -3,8 +3,8 @@ use borrow.Author.Needs.{needs}
 use borrow.Author.Tests.{lt-ltb, le-ltb}
 use Rattle.surface.specs.Flags.{runsFor}
 use Rattle.surface.proofs.General.Bools.{flag}
-use Rattle.ring.proofs.runs_of.Statement.{statement}
-use Rattle.ring.proofs.runs_of.Tie as tie
+use Rattle.ring.proofs.runs_for.Statement.{statement}
+use Rattle.ring.proofs.runs_for.Tie as tie
 
 returns : tie.Need-returns
 unfolding runsFor
@@ -14,5 +14,5 @@ returns-2 : tie.Need-returns-2
 unfolding runsFor
 returns-2 c = rw (le-ltb _ 3 (c .if1 .left))
 
-pub runs-of-spec : {M : Type 1} → statement M
-runs-of-spec = tie.close (tie.spec (search needs) returns (search needs) returns-2)
+pub runs-for-spec : {M : Type 1} → statement M
+runs-for-spec = tie.close (tie.spec (search needs) returns (search needs) returns-2)
