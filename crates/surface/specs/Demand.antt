@@ -1,4 +1,4 @@
--- Demand 3 of the request (docs/PROOFS.md), as one statement about a whole series: a field for each of its sentences, over the outcomes of the calls.
+-- Demand 3 (docs/PROOFS.md), as one statement about a whole series: a field for each of its sentences, over the outcomes of the calls.
 use Prim.Native.Nat.{ℕ, _+_, _≤_, _<_}
 use mathlib.Core.Path.{_≡_}
 use mathlib.Core.Logic.{_⊎_, _↔_}

@@ -34,7 +34,7 @@ pub record Grounds (pl : Plot) (post k mark : ℕ) (bytes : List ℕ) : Type 0 w
   -- and the mark follows from them: whether some member is above, whether some is below, and k
   pub marked : mark ≡ markFor (not (all saysBelow (codesIn bytes))) (any saysBelow (codesIn bytes)) k
 
--- of every accepted call, whatever the eight bytes that were lent to it
+-- of every accepted call, whatever bytes were lent to it
 abbrev pub RingGrounds : Type 0
 RingGrounds =
     (pl : Plot) (post : ℕ) (lent : List ℕ)
