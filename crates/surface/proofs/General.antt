@@ -1,5 +1,6 @@
--- Facts about truth values, sums and lists.
+-- Facts about truth values, rounding, sums and lists.
 pub mod Bools
+pub mod Rounding
 pub mod Sum
 pub mod ListOf
 pub mod FirstNot

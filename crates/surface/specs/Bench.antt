@@ -25,17 +25,33 @@ star = plot 3 3 (pos 0 ∷ pos 2 ∷ pos 0 ∷ pos 2 ∷ pos 1 ∷ pos 2 ∷ pos
 abbrev pub hollow : Plot
 hollow = plot 3 3 (pos 1 ∷ pos 1 ∷ pos 1 ∷ pos 1 ∷ pos 0 ∷ pos 1 ∷ pos 1 ∷ pos 1 ∷ pos 1 ∷ [])
 
--- a 2 by 2 file of the tenths 4, 5, 15, -5
-abbrev pub tenths : List ℕ
-tenths =
+-- a 2 by 2 file, by the bytes of its four heights
+abbrev pub filed : List ℕ → List ℕ
+filed bytes =
     1
     ∷ 0 ∷ 0 ∷ 0 ∷ 18
     ∷ 2 ∷ 2
-    ∷ 0 ∷ 0 ∷ 0 ∷ 4
+    ∷ bytes
+
+-- the tenths 4, 5, 15, -5
+abbrev pub tenths : List ℕ
+tenths =
+    filed (
+    0 ∷ 0 ∷ 0 ∷ 4
     ∷ 0 ∷ 0 ∷ 0 ∷ 5
     ∷ 0 ∷ 0 ∷ 0 ∷ 15
     ∷ 255 ∷ 255 ∷ 255 ∷ 251
-    ∷ []
+    ∷ [])
+
+-- the tenths 25, -4, -15, -25
+abbrev pub moreTenths : List ℕ
+moreTenths =
+    filed (
+    0 ∷ 0 ∷ 0 ∷ 25
+    ∷ 255 ∷ 255 ∷ 255 ∷ 252
+    ∷ 255 ∷ 255 ∷ 255 ∷ 241
+    ∷ 255 ∷ 255 ∷ 255 ∷ 231
+    ∷ [])
 
 -- lists lent: n marks that were never a survey's, n entries of a line list
 abbrev pub marks : ℕ → List ℕ
@@ -86,6 +102,7 @@ pub record Starred : Type 0 where
   pub hollowSaddle : getD (surveyMarks hollow (marks 9)) 0 9 ≡ 3
   pub hollowPeak : getD (surveyMarks hollow (marks 9)) 8 9 ≡ 1
   pub hollowCounts : surveyAnswer hollow (marks 9) ≡ counted 1 2 1
-  -- tenths 4, 5, 15, -5 read as 0, 1, 2, -1
-  pub roundings : readHeights tenths (replicate 4 (pos 7)) ≡ pos 0 ∷ pos 1 ∷ pos 2 ∷ negsuc 0 ∷ []
+  -- tenths 4, 5, 15, -5 read as 0, 0, 2, 0, and 25, -4, -15, -25 as 2, 0, -2, -2
+  pub roundings : readHeights tenths (replicate 4 (pos 7)) ≡ pos 0 ∷ pos 0 ∷ pos 2 ∷ pos 0 ∷ []
   pub roundingsRead : readAnswer tenths (replicate 4 (pos 7)) ≡ record { code = 0; place = 0; rows = 2; columns = 2 }
+  pub moreRoundings : readHeights moreTenths (replicate 4 (pos 7)) ≡ pos 2 ∷ pos 0 ∷ negsuc 1 ∷ negsuc 1 ∷ []

@@ -1,6 +1,6 @@
 -- The definitions of docs/SPECIFICATION.md, a file for each of its sections. These files are what a reader must believe; the laws are in proofs/.
--- (Lists, Flags, Demand and Grounds are no sections of their own. Flags serves the code, and no promise of a call cites it; Demand states what is proved of
--- them all, and Grounds what is proved of the ring call.)
+-- (Lists, Flags, Rounding, Demand and Grounds are no sections of their own. Flags serves the code, and no promise of a call cites it; Rounding belongs to
+-- "Survey file"; Demand states what is proved of them all, and Grounds what is proved of the ring call.)
 --
 -- To read them without knowing the language:
 --     f : A → B, and below it f x = ..       a definition with its type; `abbrev`, `unfoldable` and `pub` may be skipped
@@ -11,7 +11,9 @@
 --     cond b x y                             x where b is true, else y;  &&, ||, not: of true and false
 --     leb a b   ltb a b   eqb a b   ltZ a b  the tests a ≤ b, a < b, a = b of natural numbers, and a < b of whole numbers
 --     zero   suc n   a - b   a / b   a % b   0 and n + 1; a - b of natural numbers is 0 where b is greater; quotient and remainder
---     pos n     negsuc n   negℤ a   a *ℤ b   the whole numbers n and -(n + 1); minus a; a times b
+--     pos n     negsuc n   negℤ a   natAbs a the whole numbers n and -(n + 1); minus a; a without its sign
+--     a *ℤ b    a -ℤ b                       a times b and a less b, of whole numbers
+--     closest a b                            a / b to the nearest natural number, to the even one where two are equally near
 --     []   x ∷ l   l ++ m   length           lists; x ∷ binds closer than ++
 --     getD l i d   set l i x   replicate n x element i of l, or d past its end; l with x at place i; x, n times
 --     take n l   drop n l   map f l          the first n elements; the others; f of each.  flatten: lists one after the other
@@ -28,6 +30,7 @@ pub mod Marks
 pub mod Flags
 pub mod Codes
 pub mod Lines
+pub mod Rounding
 pub mod SurveyFile
 pub mod Refusals
 pub mod Calls

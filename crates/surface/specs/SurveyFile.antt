@@ -9,11 +9,12 @@ use Prim.Native.Nat.{ℕ, _+_, _-_, _*_, _/_, _%_}
 use mathlib.Core.Bool.{Bool, cond, not, _&&_}
 use mathlib.Core.List.{List, [], _∷_, _++_, map}
 use lib.Dec.{ltb}
-use lib.IntN.{ℤ, pos, negsuc, negℤ, _*ℤ_}
+use lib.IntN.{ℤ, pos, negsuc, _*ℤ_}
 use lib.Signed.{ltZ}
 use lib.ListN.{getD}
 use Rattle.surface.specs.Lists.{listOf}
 use Rattle.surface.specs.Plot.{Plot}
+use Rattle.surface.specs.Rounding.{roundTiesToEven}
 
 -- the big-endian 32-bit number at byte i
 unfoldable pub wordAt : List ℕ → ℕ → ℕ
@@ -49,10 +50,9 @@ isTenths z = not (ltZ z (negsuc 9999999)) && not (ltZ (pos 10000000) z)
 unfoldable pub tenthsOf : List ℕ → ℕ → List ℤ
 tenthsOf file n = listOf (λ i. signed (wordAt file (7 + 4 * i))) n
 
--- tenths to whole millimetres, a half going away from zero
+-- tenths to whole millimetres, a half going to the even one
 unfoldable pub rounded : ℤ → ℤ
-rounded (pos n) = pos ((n + 5) / 10)
-rounded (negsuc n) = negℤ (pos ((n + 1 + 5) / 10))
+rounded t = roundTiesToEven t 10
 
 -- what reading makes of n filed heights
 unfoldable pub heightsIn : List ℕ → ℕ → List ℤ

@@ -10,8 +10,7 @@ use surface::Answer;
 ghost use mathlib.Core.Path.{_≡_};
 ghost use Prim.Native.Nat.{_≤_};
 ghost use lib.ListN.{length};
-ghost use Rattle.surface.specs.Lists.{firstNot};
-ghost use Rattle.surface.specs.SurveyFile.{isTenths, tenthsOf, heightsIn};
+ghost use Rattle.surface.specs.SurveyFile.{heightsIn};
 ghost use Rattle.surface.specs.Refusals.{readVerdict};
 ghost use Rattle.survey_file.specs.Layout.{heightAt};
 
@@ -49,7 +48,6 @@ pub(crate) fn read_verdict(file: &[u8], heights: &[i32]) -> Answer
 // Fills the list with the heights that the file holds.
 pub(crate) fn read_heights(file: &[u8], heights: &mut [i32])
     requires { ⌜ heightAt (length (now heights)) ≤ length (now file) ⌝ }
-    requires { ⌜ firstNot isTenths (tenthsOf (now file) (length (now heights))) ≡ length (now heights) ⌝ }
     ensures { λ _. ⌜ now (heights .exit) ≡ heightsIn (now (file .entry)) (length (now (heights .entry))) ⌝ }
 {
     let mut i = 0;

@@ -12,19 +12,34 @@ ghost use Rattle.surface.specs.Lists.{firstNot};
 ghost use Rattle.surface.specs.Plot.{isHeight};
 ghost use Rattle.surface.specs.SurveyFile.{wordAt, signed, unsigned, isTenths, tenthsOf, rounded};
 ghost use Rattle.survey_file.specs.Layout.{heightAt};
+ghost use Rattle.survey_file.specs.Rounding.{stepFrom};
 
 // The lowest and the highest filed height.
 const LOWEST_FILED: i32 = -10000000;
 
 const HIGHEST_FILED: i32 = 10000000;
 
-// Tenths to whole millimetres, a half going away from zero: `/` and `%` go toward zero, and the remainder has the sign of t. Adding the remainder reaches
-// the next ten exactly where it is a half or more, on either side of zero.
+// Tenths to whole millimetres, a half going to the even one. `/` and `%` go toward zero, and a remainder has the sign of what is divided, so that both sides
+// of zero are alike. With one more at an odd quotient, the remainder is beyond 5 exactly where the next millimetre away from zero is nearer, or as near and
+// even.
 pub(crate) fn round(t: i32) -> i32
-    requires { ⌜ isTenths t ≡ true ⌝ }
     ensures { λ r. ⌜ r ≡ rounded t ⌝ }
 {
-    (t + t % 10) / 10
+    let whole = t / 10;
+    whole + step(t % 10 + whole % 2)
+}
+
+// A step away from zero where the rest is beyond 5.
+fn step(rest: i32) -> i32
+    ensures { λ r. ⌜ r ≡ stepFrom rest ⌝ }
+{
+    if 5 < rest {
+        return 1;
+    }
+    if rest < -5 {
+        return -1;
+    }
+    0
 }
 
 // Whether a filed height is in range.

@@ -39,13 +39,6 @@ module _ {A : Type 0} (s : A → Bool) where
       by true h = omega arith
       by false h = omega arith
 
-  -- where none fails, each passes
-  pub firstNot-all : (l : List A) (d : A) → firstNot s l ≡ length l → (i : ℕ) → i < length l → s (getD l i d) ≡ true
-  unfolding firstNot
-  firstNot-all [] d e i h = absurd (omega arith)
-  firstNot-all (x ∷ l) d e zero h = counted (s x) e .0
-  firstNot-all (x ∷ l) d e (suc i) h = firstNot-all l d (counted (s x) e .1) i (omega arith)
-
 -- where all pass one test, all pass another after f
 pub firstNot-map :
     {A B : Type 0} (s : A → Bool) (u : B → Bool) (f : A → B) → ((x : A) → s x ≡ true → u (f x) ≡ true)

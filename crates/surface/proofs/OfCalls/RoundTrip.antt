@@ -10,10 +10,13 @@ use lib.Seq.{ext-getD}
 use borrow.Author.Tests.{le-ltb}
 use Rattle.surface.specs.Lists.{all, firstNot}
 use Rattle.surface.specs.Plot.{Plot, plot, posts, isHeight, Valid}
+use Rattle.surface.specs.Rounding.{Nearest}
 use Rattle.surface.specs.SurveyFile.{wordAt, statedCount, countFor, fileSize, signed, bytesOf, isTenths, tenthsOf, rounded, heightsIn, filedHeights, fileOf}
 use Rattle.surface.specs.Refusals.{readVerdict}
 use Rattle.surface.specs.Calls.{readAnswer, readHeights, writeAnswer, writeFile}
 use Rattle.surface.proofs.OfCalls.FileCalls.{read-code, read-served, read-filled, write-filled}
+use Rattle.surface.proofs.General.Rounding.{nearest-is}
+use Rattle.surface.proofs.General.ListOf.{getD-mapped}
 use Rattle.surface.proofs.General.FirstNot.{firstNot-map, ranged-all, all-firstNot, all-at}
 use Rattle.surface.proofs.OfCalls.SurveyFile.{length-tenthsOf, getD-tenthsOf, wordAt-skip, wordAt-bytesOf, wordAt-filed, length-filedHeights, signed-unsigned, mag-tenfold, isTenths-tenfold, rounded-tenfold, isHeight-rounded}
 use Rattle.surface.proofs.OfCalls.Accepted.{postsIn, ForRead, ForWrite, read-valid, valid-read, write-valid}
@@ -125,6 +128,19 @@ read-plot file out e =
     let r = read-valid file out v in
     rw (read-served file out v, read-filled file out v, r .room)
     (record { sides = r .sides; size = length-heightsIn file (postsIn file); inRange = heightsIn-high file (postsIn file) (r .tenths) })
+
+-- "Reading rounds to whole millimetres, a half going to the even one": each height that an accepted read leaves is the nearest to a tenth of what is filed.
+pub read-nearest :
+    (file : List ℕ) (out : List ℤ)
+    → readAnswer file out .code ≡ 0
+    → (i : ℕ) → i < length out
+    → Nearest (signed (wordAt file (7 + 4 * i))) 10 (getD (readHeights file out) i (pos 0))
+unfolding heightsIn rounded
+read-nearest file out e i h =
+    let v = sym (read-code file out) ∙ e in
+    let n = length-tenthsOf file (length out) in
+    rw (read-filled file out v, getD-mapped rounded (tenthsOf file (length out)) i (pos 0) (pos 0) (omega (arith, n)), getD-tenthsOf file (length out) i h)
+    (nearest-is (signed (wordAt file (7 + 4 * i))) 10 (omega arith) _ .1 refl)
 
 -- "A file we write reads back to the same millimetre heights": into any list of as many heights, with the same rows and columns.
 pub round-trip :

@@ -6,11 +6,12 @@ use Rattle.surface.specs.Plot.{virtualPit, below}
 use Rattle.surface.specs.Edges.{lowest, lowestOr, throughLowest, members, places, ring, ringOf, runs, runsFrom}
 use Rattle.surface.specs.Marks.{markFor, mark, markAt, marksOf, peaks, pits, saddles}
 use Rattle.surface.specs.Lines.{isEnd, next, walk, line}
+use Rattle.surface.specs.Rounding.{roundTiesToEven}
 use Rattle.surface.specs.SurveyFile.{wordAt, signed, unsigned, bytesOf, statedCount, tenthsOf, rounded, heightsIn, filedHeights, fileOf}
 use Rattle.surface.specs.Refusals.{verdict, readVerdict}
 use Rattle.surface.specs.Calls.{readAnswer, readHeights}
 use Rattle.surface.specs.Lister.{digits, decimal, fields, textLine, endName, headLine, lineText, saddleLines, postLines, plotText, listing, printed, StarListing}
 
 pub star-listing : StarListing
-unfolding listOf filter any all takeWhile lastOr count total firstNot virtualPit below lowest lowestOr throughLowest members places ring runs runsFrom markFor mark markAt marksOf ringOf peaks pits saddles isEnd next walk line wordAt signed unsigned bytesOf statedCount tenthsOf rounded heightsIn filedHeights fileOf verdict readVerdict readAnswer readHeights flatten digits decimal fields textLine endName headLine lineText saddleLines postLines plotText listing printed
+unfolding listOf filter any all takeWhile lastOr count total firstNot virtualPit below lowest lowestOr throughLowest members places ring runs runsFrom markFor mark markAt marksOf ringOf peaks pits saddles isEnd next walk line wordAt signed unsigned bytesOf statedCount tenthsOf roundTiesToEven rounded heightsIn filedHeights fileOf verdict readVerdict readAnswer readHeights flatten digits decimal fields textLine endName headLine lineText saddleLines postLines plotText listing printed
 star-listing = refl

@@ -4,16 +4,20 @@ use native.Mathlib.Nat.{div-div-eq-div-mul}
 use native.Mathlib.Numerals.{add-one}
 use native.Mathlib.Omega.{arith}
 use mathlib.Core.Path.{_≡_, refl, sym, _∙_, ap}
-use mathlib.Core.Bool.{Bool, true, false, not, _&&_}
+use mathlib.Core.Bool.{true, not}
 use mathlib.Core.List.{List, [], _∷_, _++_, append-assoc, append-nil}
 use borrow.Author.Tests.{ltb-false, lt-ltb, le-ltb, not-true}
 use lib.IntN.{ℤ, pos, negsuc, negℤ, _*ℤ_}
 use lib.Signed.{mag}
+use lib.Ieee.Nearest.{closest, closest-mono}
 use lib.ListN.{length, getD, take, length-append}
 use lib.Seq.{getD-append-add, take-suc}
 use Rattle.surface.specs.Lists.{listOf}
 use Rattle.surface.specs.Plot.{isHeight}
+use Rattle.surface.specs.Rounding.{roundTiesToEven}
 use Rattle.surface.specs.SurveyFile.{wordAt, signed, unsigned, bytesOf, isTenths, tenthsOf, rounded, filedHeights, heightsIn}
+use Rattle.surface.proofs.General.Bools.{and-left}
+use Rattle.surface.proofs.General.Rounding.{round-times}
 use Rattle.surface.proofs.General.ListOf.{length-listOf, getD-listOf, map-listOf}
 
 -- ---- words
@@ -72,14 +76,7 @@ tenfold-negsuc n =
 
 pub rounded-tenfold : (z : ℤ) → rounded (z *ℤ pos 10) ≡ z
 unfolding rounded
-rounded-tenfold (pos n) = ap pos (omega arith)
-rounded-tenfold (negsuc n) =
-    let e : (n * 10 + 9 + 1 + 5) / 10 ≡ suc n = omega arith in
-    rw (tenfold-negsuc n, e)
-
-and-left : (a b : Bool) → (a && b) ≡ true → a ≡ true
-and-left true b e = refl
-and-left false b e = e
+rounded-tenfold z = round-times z 10 (omega arith)
 
 -- a height in range is in range in tenths
 pub isTenths-tenfold : (z : ℤ) → isHeight z ≡ true → isTenths (z *ℤ pos 10) ≡ true
@@ -95,10 +92,13 @@ low-height : (k : ℕ) → k ≤ 1000000 → isHeight (negℤ (pos k)) ≡ true
 low-height zero h = refl
 low-height (suc k) h = rw (le-ltb 999999 k (omega arith))
 
+tenth-height : (n : ℕ) → n ≤ 10000000 → closest n 10 ≤ 1000000
+tenth-height n h = closest-mono n 10 10000000 10 (omega arith) (omega arith) (omega arith)
+
 pub isHeight-rounded : (t : ℤ) → isTenths t ≡ true → isHeight (rounded t) ≡ true
-unfolding rounded
-isHeight-rounded (pos n) e = ap not (le-ltb 1000000 ((n + 5) / 10) (omega (arith, ltb-false 10000000 n (not-true _ e))))
-isHeight-rounded (negsuc n) e = low-height ((n + 1 + 5) / 10) (omega (arith, ltb-false 9999999 n (not-true _ (and-left _ _ e))))
+unfolding rounded roundTiesToEven
+isHeight-rounded (pos n) e = ap not (le-ltb 1000000 (closest n 10) (tenth-height n (ltb-false 10000000 n (not-true _ e))))
+isHeight-rounded (negsuc n) e = low-height (closest (suc n) 10) (tenth-height (suc n) (omega (arith, ltb-false 9999999 n (not-true _ (and-left _ _ e)))))
 
 -- ---- what is read
 

@@ -23,7 +23,7 @@ returns c =
     (rw e (sym (read-refused _ _ n)), sym (read-kept _ _ n))
 
 read-heights-requires : tie.Need-read-heights-requires
-read-heights-requires c κs = let f = found (c .before) in (omega (arith, f .size, f .room), rw (f .room) (f .tenths))
+read-heights-requires c κs = let f = found (c .before) in omega (arith, f .size, f .room)
 
 returns-2 : tie.Need-returns-2
 returns-2 c =

@@ -4,14 +4,13 @@ use mathlib.Core.Path.{_≡_, sym, _∙_, ap}
 use mathlib.Core.List.{List}
 use native.Mathlib.Omega.{arith}
 use borrow.Author.Needs.{needs}
-use lib.IntN.{ℤ, pos}
+use lib.IntN.{ℤ}
 use lib.ListN.{length}
 use mir.Syntax.{w32}
 use mir.Val.{toZ, ofZ}
-use Rattle.surface.specs.SurveyFile.{wordAt, signed, isTenths, tenthsOf, rounded}
-use Rattle.surface.proofs.General.FirstNot.{firstNot-all}
+use Rattle.surface.specs.SurveyFile.{wordAt, signed, rounded}
 use Rattle.surface.proofs.General.ListOf.{Filled, filled-none, filled-more, filled-length, filled-all}
-use Rattle.surface.proofs.OfCalls.SurveyFile.{length-tenthsOf, getD-tenthsOf, heightsIn-is}
+use Rattle.surface.proofs.OfCalls.SurveyFile.{heightsIn-is}
 use Rattle.survey_file.specs.Layout.{heightAt}
 use Rattle.survey_file.proofs.reading.read_heights.Statement.{statement}
 use Rattle.survey_file.proofs.reading.read_heights.Tie as tie
@@ -41,15 +40,6 @@ module _ (l : tie.At-loop Inv-loop μ-loop) where
 bits : (c : tie.After-tenths-at Inv-loop μ-loop) → toZ w32 (ofZ w32 (c .tenths-at .result)) ≡ c .tenths-at .result
 bits c = search needs
 
-round-requires : tie.Need-round-requires Inv-loop μ-loop
-round-requires c κs =
-    let l = c .before .before in
-    let n = length (H₀ l) in
-    let h : l .loop .i < n = omega (arith, kept l) in
-    let none = l .before .before .pre .1 ∙ sym (length-tenthsOf (F l) n) in
-    let e = firstNot-all isTenths (tenthsOf (F l) n) (pos 0) none (l .loop .i) (rw length-tenthsOf h) in
-    rw (bits c, c .tenths-at .ensures) (rw (getD-tenthsOf (F l) n (l .loop .i) h) at e)
-
 loop-again : tie.Need-loop-again Inv-loop μ-loop
 loop-again c =
     let l = c .before .before .before in
@@ -71,7 +61,7 @@ read-heights-spec =
     μ-loop
     (λ c. (omega arith, filled-none _ _))
     (λ c κs. omega (arith, kept (c .before)))
-    round-requires (search needs) (search needs)
+    (search needs) (search needs) (search needs)
     (λ c. omega (arith, kept (c .before .before .before)))
     (λ c. omega (arith, kept (c .before .before .before)))
     loop-again
