@@ -1,5 +1,6 @@
 // Big-endian 32-bit numbers in a list of bytes, and their signed reading. By arithmetic, which loses nothing; the compiler makes moves of it.
 ghost use mathlib.Core.Path.{_≡_};
+ghost use mathlib.Core.List.{reverse};
 ghost use Prim.Native.Nat.{_+_, _<_, _≤_};
 ghost use lib.ListN.{length};
 ghost use lib.Seq.{sets};
@@ -11,7 +12,7 @@ pub(crate) fn wide(x: u8) -> u32
     x as u32
 }
 
-// The number at byte i.
+// The number at byte i. It is put together from its last byte on and then turned, so that the compiler loads and turns four numbers at a time.
 pub(crate) fn word_at(file: &[u8], i: usize) -> u32
     requires { ⌜ i + 4 ≤ length (now file) ⌝ }
     ensures { λ r. ⌜ r ≡ wordAt (now (file .entry)) i ⌝ }
@@ -20,7 +21,14 @@ pub(crate) fn word_at(file: &[u8], i: usize) -> u32
     let b = wide(file[i + 1]);
     let c = wide(file[i + 2]);
     let d = wide(file[i + 3]);
-    ((a * 256 + b) * 256 + c) * 256 + d
+    turned(((d * 256 + c) * 256 + b) * 256 + a)
+}
+
+// The number with its four bytes in the other order.
+fn turned(n: u32) -> u32
+    ensures { λ r. ⌜ r ≡ wordAt (reverse (bytesOf n)) 0 ⌝ }
+{
+    ((n % 256 * 256 + n / 256 % 256) * 256 + n / 65536 % 256) * 256 + n / 16777216
 }
 
 // Puts the number n at byte i.

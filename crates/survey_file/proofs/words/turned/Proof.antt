@@ -1,0 +1,15 @@
+-- `survey_file::words::turned` meets its contract: a byte is below 256, so that no sum wraps.
+use native.Mathlib.Omega.{arith}
+use borrow.Author.Needs.{needs}
+use Rattle.surface.specs.SurveyFile.{wordAt, bytesOf}
+use Rattle.survey_file.proofs.words.turned.Statement.{statement}
+use Rattle.survey_file.proofs.words.turned.Tie as tie
+
+returns : tie.Need-returns
+unfolding wordAt bytesOf
+returns c = omega arith
+
+pub turned-spec : {M : Type 1} → statement M
+turned-spec =
+    tie.close
+    (tie.spec (search needs) (search needs) (search needs) (search needs) (search needs) (search needs) returns)
