@@ -227,6 +227,16 @@ static void choose_line(int name)
     post = p0, run = run0;
 }
 
+/* Puts heights between whole millimetres into the file, halves among them. */
+static void file_tenths(void)
+{
+    for (uint32_t p = 0; p < posts; p++) {
+        uint32_t tenths = (uint32_t)(heights[p] * 5 + (int32_t)(p % 21) - 10);
+        for (int i = 0; i < 4; i++)
+            file[SN_FILE_HEADER + 4 * p + i] = (uint8_t)(tenths >> (24 - 8 * i));
+    }
+}
+
 static void prepare(uint32_t a_side, int kind, int name)
 {
     side = a_side;
@@ -237,6 +247,8 @@ static void prepare(uint32_t a_side, int kind, int name)
     if (name == THALWEG || name == RIDGE)
         choose_line(name);
     (void)once(SCALAR, WRITE, 0);
+    if (name == READ)
+        file_tenths();
 }
 
 /* ---- times ---- */
