@@ -10,7 +10,7 @@ mod whole_plots;
 
 use crate::call::{Call, Kind};
 use crate::opinion::file_of;
-use crate::plots::Chance;
+use crate::plots::{in_tenths, Chance, UNEVEN};
 use crate::surface::{Plot, Way};
 use crate::tester::{law, Outcome, Tester};
 
@@ -26,6 +26,7 @@ pub fn all(t: &mut Tester, chance: &mut Chance, long: bool) {
     bounds::other_shape(t, chance);
     files::round_trip(t, chance, 300 * times);
     files::every_tenth(t);
+    files::every_filed_height(t);
     files::every_damage(t);
     files::damaged_by_chance(t, chance, 3000 * times);
     series::never_surveyed(t, chance, 2000 * times);
@@ -69,7 +70,7 @@ fn good(kind: Kind, rows: usize, columns: usize, heights: &[i32], chance: &mut C
         }
         Kind::ReadSurvey => {
             (call.rows, call.columns) = (0, 0);
-            let tenths: Vec<i32> = heights.iter().map(|h| h * 10).collect();
+            let tenths = in_tenths(heights, &UNEVEN, chance);
             call.file = file_of(rows as u8, columns as u8, &tenths);
             call.heights = chance.shorts(posts).iter().map(|&h| h as i32).collect();
         }

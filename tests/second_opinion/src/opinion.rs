@@ -180,11 +180,10 @@ pub fn dales_and_hills(
     })())
 }
 
-/// Tenths to whole millimetres, a half going away from zero.
-pub fn rounded(tenths: i32) -> i32 {
-    let size = (tenths as i64).abs();
-    let whole = size / 10 + if size % 10 >= 5 { 1 } else { 0 };
-    (if tenths < 0 { -whole } else { whole }) as i32
+/// Tenths to whole millimetres: the nearest, and of two as near the even one.
+fn rounded(tenths: i32) -> i32 {
+    let about = tenths / 10; // less than 1 off
+    (about - 1..=about + 1).min_by_key(|mm| ((10 * mm - tenths).abs(), mm & 1)).unwrap()
 }
 
 pub fn read_survey(file: &[u8], heights: &mut [i32]) -> [u32; 4] {

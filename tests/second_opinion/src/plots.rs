@@ -101,6 +101,15 @@ pub fn ground(kind: &str, rows: usize, columns: usize, chance: &mut Chance) -> V
     }
 }
 
+/// Tenths to add to a height, halves among them.
+pub const UNEVEN: [i32; 6] = [-5, -4, 0, 4, 5, 6];
+
+/// Heights in tenths, one of these added to each as far as the range goes.
+pub fn in_tenths(heights: &[i32], added: &[i32], chance: &mut Chance) -> Vec<i32> {
+    let tenths = |h: &i32| (10 * h + chance.of(added)).clamp(-10_000_000, 10_000_000);
+    heights.iter().map(tenths).collect()
+}
+
 /// Rows, columns and heights of a plot with sides from 2 to `most`, of each ground
 /// in turn.
 pub fn any_plot(turn: usize, most: usize, chance: &mut Chance) -> (usize, usize, Vec<i32>) {

@@ -100,6 +100,10 @@ const LINES: [Line; 4] = [
     (Kind::Thalweg, 2, CROSSED, 2, 2, 9, 8, &[9; 9]),
 ];
 
+/// Tenths, then the heights that they are read as.
+const ROUNDINGS: [([i32; 4], [i32; 4]); 2] =
+    [([4, 5, 15, -5], [0, 0, 2, 0]), ([25, -15, -25, -26], [2, -2, -2, -3])];
+
 pub fn bench_plots(t: &mut Tester) {
     t.group("bench plots");
     surveys(t);
@@ -145,11 +149,11 @@ fn lines(t: &mut Tester) {
 }
 
 fn files(t: &mut Tester) {
-    let call = read(file_of(2, 2, &[4, 5, 15, -5]), 4);
-    let outcome = t
-        .agree(&call)
-        .and_then(|(_, left)| law(left.heights == [0, 1, 2, -1], "the rounding", &call));
-    t.case(outcome);
+    for (tenths, heights) in ROUNDINGS {
+        let call = read(file_of(2, 2, &tenths), 4);
+        let outcome = t.agree(&call);
+        t.case(outcome.and_then(|(_, left)| law(left.heights == heights, "the rounding", &call)));
+    }
     let call = read(vec![], 4);
     t.case(t.agree(&call).and_then(|(answer, _)| law(answer[0] == 10, "refusal 10", &call)));
 }

@@ -4,7 +4,7 @@ use super::good;
 use crate::call::{Call, Kind};
 use crate::opinion::file_of;
 use crate::plots::{ground, Chance, GROUNDS};
-use crate::tester::{law, Tester};
+use crate::tester::{law, Outcome, Tester};
 
 pub fn read(file: Vec<u8>, room: usize) -> Call {
     Call { kind: Kind::ReadSurvey, file, heights: vec![77; room], ..Call::default() }
@@ -20,19 +20,27 @@ pub fn round_trip(t: &mut Tester, chance: &mut Chance, times: usize) {
             _ => (2 + chance.below(20), 2 + chance.below(20)),
         };
         let heights = ground(GROUNDS[i % GROUNDS.len()], rows, columns, chance);
-        let outcome = t
-            .agree(&good(Kind::WriteSurvey, rows, columns, &heights, chance))
-            .and_then(|(_, written)| t.agree(&read(written.file, heights.len())))
-            .and_then(|(answer, left)| {
-                law(answer == [0, 0, rows as u32, columns as u32], "the sides come back", &left)?;
-                law(left.heights == heights, "the heights come back", &left)
-            });
-        t.case(outcome);
+        t.case(one_round_trip(t, rows, columns, &heights, chance));
     }
 }
 
+/// A file read, what it held written, and that read back.
+fn one_round_trip(
+    t: &Tester,
+    rows: usize,
+    columns: usize,
+    heights: &[i32],
+    chance: &mut Chance,
+) -> Outcome {
+    let (_, held) = t.agree(&good(Kind::ReadSurvey, rows, columns, heights, chance))?;
+    let (_, written) = t.agree(&good(Kind::WriteSurvey, rows, columns, &held.heights, chance))?;
+    let (answer, back) = t.agree(&read(written.file, held.heights.len()))?;
+    law(answer == [0, 0, rows as u32, columns as u32], "the sides come back", &back)?;
+    law(back.heights == held.heights, "the heights come back", &back)
+}
+
 pub fn every_tenth(t: &mut Tester) {
-    t.group("files: every tenth, and the bounds");
+    t.group("files: tenths at each post, and the bounds");
     let bounds = [1, -1].iter().flat_map(|sign| (9_999_980..=10_000_020).map(move |t| sign * t));
     let extremes = [i32::MAX, i32::MIN, i32::MAX - 1, i32::MIN + 1];
     for tenths in (-50..=50).chain(bounds).chain(extremes) {
@@ -40,18 +48,37 @@ pub fn every_tenth(t: &mut Tester) {
             let mut list = [103, 114, -115, 126];
             list[post] = tenths;
             let call = read(file_of(2, 2, &list), 4);
-            t.case(t.agree(&call).and_then(|(answer, left)| {
+            t.case(t.agree(&call).and_then(|(answer, _)| {
                 let fits = (-10_000_000..=10_000_000).contains(&tenths);
-                law((answer[0] == 0) == fits, "the range of a filed height", &call)?;
-                law(!fits || left.heights[post] == by_float(tenths), "the rounding", &call)
+                law((answer[0] == 0) == fits, "the range of a filed height", &call)
             }));
         }
     }
 }
 
-/// The rounding once more, by floating point: `round` takes halves away from 0.
-fn by_float(tenths: i32) -> i32 {
-    (tenths as f64 / 10.0).round() as i32
+/// Every filed height that is in range, a file of the largest size at a time.
+pub fn every_filed_height(t: &mut Tester) {
+    t.group("files: every filed height");
+    for start in (-10_000_000..=10_000_000).step_by(14_400) {
+        // The last file begins earlier, to be full.
+        let start = start.min(10_000_001 - 14_400);
+        let tenths: Vec<i32> = (start..start + 14_400).collect();
+        let outcome = t.agree(&read(file_of(120, 120, &tenths), 14_400));
+        t.case(outcome.and_then(|(_, left)| {
+            match tenths.iter().zip(&left.heights).find(|(&t, &h)| !is_rounded(t, h)) {
+                None => Ok(()),
+                Some((tenths, height)) => Err(format!("{tenths} tenths read as {height}")),
+            }
+        }));
+    }
+}
+
+/// The height is within 5 of the tenths, and even where it is 5 away. By floating point
+/// it is the same.
+fn is_rounded(tenths: i32, height: i32) -> bool {
+    let away = (10 * height - tenths).abs();
+    let by_float = (tenths as f64 / 10.0).round_ties_even();
+    (away < 5 || away == 5 && height % 2 == 0) && height as f64 == by_float
 }
 
 pub fn every_damage(t: &mut Tester) {

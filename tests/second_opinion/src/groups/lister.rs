@@ -15,26 +15,28 @@ fn agree(lister: &str, name: &str, input: &[u8]) -> Outcome {
     Err(format!("{name}: line {} is {:?}, should be {:?}", line + 1, at(&got), at(&expected)))
 }
 
-fn file(kind: &str, rows: usize, columns: usize, chance: &mut Chance) -> Vec<u8> {
-    let tenths: Vec<i32> = ground(kind, rows, columns, chance).iter().map(|h| h * 10).collect();
-    file_of(rows as u8, columns as u8, &tenths)
+/// A file of such ground, one of these tenths added to each height.
+fn file(kind: &str, rows: usize, columns: usize, added: &[i32], chance: &mut Chance) -> Vec<u8> {
+    let heights = ground(kind, rows, columns, chance);
+    file_of(rows as u8, columns as u8, &in_tenths(&heights, added, chance))
 }
 
 pub fn lister(t: &mut Tester, lister: &str, chance: &mut Chance, times: usize) {
-    t.group("listings");
-    for kind in GROUNDS {
-        for (rows, columns) in [(2, 2), (120, 120), (2, 120), (120, 2)] {
-            let name = format!("{kind} {rows} by {columns}");
-            t.case(agree(lister, &name, &file(kind, rows, columns, chance)));
-        }
-        for _ in 0..20 * times {
-            let (rows, columns) = (2 + chance.below(20), 2 + chance.below(20));
-            let name = format!("{kind} {rows} by {columns}");
-            t.case(agree(lister, &name, &file(kind, rows, columns, chance)));
+    for (name, added, most) in
+        [("listings", &[0][..], 120), ("listings with tenths added", &UNEVEN, 50)]
+    {
+        t.group(name);
+        for kind in GROUNDS {
+            let mut sizes = vec![(2, 2), (most, most), (2, 120), (120, 2)];
+            sizes.extend((0..20 * times).map(|_| (2 + chance.below(20), 2 + chance.below(20))));
+            for (rows, columns) in sizes {
+                let name = format!("{kind} {rows} by {columns}");
+                t.case(agree(lister, &name, &file(kind, rows, columns, added, chance)));
+            }
         }
     }
     t.group("listings of damaged files");
-    let good = file("few heights", 4, 5, chance);
+    let good = file("few heights", 4, 5, &UNEVEN, chance);
     for length in 0..=good.len() {
         t.case(agree(lister, "cut short", &good[..length]));
     }
@@ -47,7 +49,7 @@ pub fn lister(t: &mut Tester, lister: &str, chance: &mut Chance, times: usize) {
         t.case(agree(lister, "changed bytes", &bad));
     }
     // The largest file, and longer ones: all that is read is too long.
-    let large = file("flat", 120, 120, chance);
+    let large = file("flat", 120, 120, &[0], chance);
     for more in [1, 2, 100_000] {
         let mut long = large.clone();
         long.extend(chance.bytes(more));
