@@ -264,21 +264,24 @@ static sn_size read4(const int32_t *tenths, int32_t *heights)
 
 static void files(void)
 {
-    static const int32_t halves[4] = {4, 5, 15, -5}, whole[4] = {0, 1, 2, -1};
+    static const int32_t halves[2][4] = {{4, 5, 15, -5}, {25, -15, -25, 26}};
+    static const int32_t whole[2][4] = {{0, 0, 2, 0}, {2, -2, -2, 3}};
     static const int32_t most[4] = {10000000, -10000000, 0, 0};
     static const int32_t beyond[4] = {0, 0, 10000001, -10000001};
     int32_t *heights = (int32_t *)lent(4 * sizeof *heights, NULL);
-    uint8_t *file = (uint8_t *)lent(SN_FILE_SIZE(2, 2), NULL);
-    int32_t back[4];
-    sn_size got = read4(halves, heights);
-    sn_answer wrote;
+    uint8_t *file = (uint8_t *)lent(0, NULL);
+    sn_size got;
+    int i;
 
-    check(got.code == SN_OK && got.rows == 2 && got.columns == 2, "tenths are read");
-    check(memcmp(heights, whole, sizeof whole) == 0, "halves go away from zero");
+    for (i = 0; i < 2; i++) {
+        got = read4(halves[i], heights);
+        check(got.code == SN_OK && got.rows == 2 && got.columns == 2, "tenths are read");
+        check(memcmp(heights, whole[i], sizeof whole[i]) == 0, "halves go to even");
+    }
     got = read4(beyond, heights);
     check(got.code == SN_HEIGHT_OUT_OF_RANGE && got.place == 2 && got.rows == 0,
           "10,000,001 tenths");
-    check(memcmp(heights, whole, sizeof whole) == 0, "a refused file leaves the heights");
+    check(memcmp(heights, whole[1], sizeof whole[1]) == 0, "a refused file leaves the heights");
     got = read4(most, heights);
     check(got.code == SN_OK && heights[0] == SN_MAX_HEIGHT && heights[1] == SN_MIN_HEIGHT,
           "10,000,000 tenths");
@@ -286,11 +289,20 @@ static void files(void)
     check(got.code == SN_FILE_TOO_SHORT, "empty file");
     got = sn_read_survey(NULL, 0, heights, 4);
     check(got.code == SN_FILE_TOO_SHORT, "no file");
+    free(heights);
+    free(file);
+}
 
-    memcpy(heights, crossed.heights, 4 * sizeof *heights);
-    wrote = sn_write_survey(2, 2, heights, 4, file, SN_FILE_SIZE(2, 2));
+/* A file written and read back. */
+static void round_trip(void)
+{
+    int32_t *heights = (int32_t *)lent(4 * sizeof *heights, crossed.heights);
+    uint8_t *file = (uint8_t *)lent(SN_FILE_SIZE(2, 2), NULL);
+    int32_t back[4];
+    sn_answer wrote = sn_write_survey(2, 2, heights, 4, file, SN_FILE_SIZE(2, 2));
+    sn_size got = sn_read_survey(file, SN_FILE_SIZE(2, 2), back, 4);
+
     check(wrote.code == SN_OK && file[4] == 18 && file[10] == 50, "crossed is written");
-    got = sn_read_survey(file, SN_FILE_SIZE(2, 2), back, 4);
     check(got.code == SN_OK && memcmp(back, heights, sizeof back) == 0, "and read back");
     file[0] = 2;
     got = sn_read_survey(file, SN_FILE_SIZE(2, 2), back, 4);
@@ -365,6 +377,7 @@ int main(void)
     refused_rings();
     lines();
     files();
+    round_trip();
     sides();
     walks();
     printf("%d passed, %d failed\n", passed, failed);
