@@ -54,7 +54,7 @@ extern "C" {
 
 /* Version of the library. The build takes it from these three lines. */
 #define SN_VERSION_MAJOR 1
-#define SN_VERSION_MINOR 2
+#define SN_VERSION_MINOR 3
 #define SN_VERSION_PATCH 0
 #define SN_VERSION \
     SN_TEXT(SN_VERSION_MAJOR) "." SN_TEXT(SN_VERSION_MINOR) "." SN_TEXT(SN_VERSION_PATCH)
@@ -364,7 +364,8 @@ sn_answer sn_dales_and_hills(uint32_t rows, uint32_t columns,
  *     then         for each post a signed big-endian 32-bit number of tenths of
  *                  a millimetre, SN_MIN_TENTHS to SN_MAX_TENTHS
  *
- * Read: rounds to whole millimetres, a half going away from zero.
+ * Read: rounds to the nearest whole millimetre, a half going to the even one: tenths
+ * 5, 15, 25 and -5 become 0, 2, 2 and 0.
  *
  * Reads   file.
  * Writes  heights: every entry. Bytes 5 and 6 of a file of SN_FILE_HEADER bytes
