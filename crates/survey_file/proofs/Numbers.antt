@@ -1,58 +1,23 @@
--- Signed 32-bit numbers: their bits, and rounding. Each law is by the two signs; in each case the rest is arithmetic of naturals.
-use Prim.Native.Nat.{ℕ, zero, suc, _+_, _-_, _*_, _/_, _%_, _≤_, _<_, compare}
+-- Rounding of signed 32-bit numbers: the quotient toward zero, and a step from the rest. Each law is by the two signs, and arithmetic of naturals in each.
+use Prim.Native.Nat.{ℕ, zero, suc, _+_, _*_, _/_, _%_, _≤_, compare}
 use native.Mathlib.Nat.{add-zero, div-le-self, mod-le, zero-mod}
 use native.Mathlib.Numerals.{add-one}
 use native.Mathlib.Omega.{arith}
 use mathlib.Core.Path.{_≡_, refl, sym, ap}
-use mathlib.Core.Bool.{Bool, true, false, cond, true≢false}
-use borrow.Author.Tests.{ltb-true, ltb-false, le-ltb}
-use lib.Dec.{T, ltb, leb·suc-suc}
-use lib.IntN.{ℤ, pos, negsuc, negℤ, natAbs, _+ℤ_, _-ℤ_, negℤ-+ℤ}
+use borrow.Author.Tests.{ltb-true, ltb-false}
+use lib.Dec.{ltb, leb·suc-suc}
+use lib.IntN.{ℤ, pos, negsuc, negℤ, _+ℤ_, negℤ-+ℤ}
 use lib.Ieee.Nearest.{closest}
 use lib.Ieee.Fits.{nearest-le}
-use lib.Signed.{mag, ltZ, nonNeg, quotZ, remZ, mag-rem}
+use lib.Signed.{mag, quotZ, remZ, mag-rem}
 use mir.Syntax.{w32}
-use mir.Val.{toZ, sel, SFits}
-use mir.ValLaws.{toZ-pos, toZ-fits, sfits-le}
+use mir.Val.{SFits}
+use mir.ValLaws.{sfits-le}
 use Rattle.surface.specs.Rounding.{roundTiesToEven}
-use Rattle.surface.specs.SurveyFile.{signed, unsigned, rounded}
+use Rattle.surface.specs.SurveyFile.{rounded}
 use Rattle.surface.proofs.General.Bools.{either}
 use Rattle.surface.proofs.General.Rounding.{closest-low, closest-high}
 use Rattle.survey_file.specs.Rounding.{stepFrom}
-
--- `signed` is the machine's reading of 32 bits
-pub signed-is : (n : ℕ) → toZ w32 n ≡ signed n
-unfolding signed
-signed-is n = by (ltb n 2147483648)
-  where
-    by : (b : Bool) → sel b (pos n) (negsuc (4294967296 - suc n)) ≡ cond b (pos n) (negsuc (4294967295 - n))
-    by true = refl
-    by false = ap negsuc (omega arith)
-
-pub signed-fits : (n : ℕ) → n < 4294967296 → SFits w32 (signed n)
-signed-fits n h = rw (← signed-is n) (toZ-fits w32 n (record { fits = h }))
-
--- -1 - m
-less-pos : (m : ℕ) → negsuc 0 -ℤ pos m ≡ negsuc m
-less-pos zero = refl
-less-pos (suc m) = ap negsuc (omega arith)
-
-pub signed-high : (n : ℕ) → 2147483648 ≤ n → n < 4294967296 → negsuc 0 -ℤ toZ w32 (4294967295 - n) ≡ signed n
-unfolding signed
-signed-high n h f = rw (toZ-pos w32 (4294967295 - n) (omega arith), less-pos (4294967295 - n), le-ltb n 2147483648 h)
-
--- the bits of a number below zero, which is -1 - n, and of one from zero on
-pub negative : (z : ℤ) → SFits w32 z → ltZ z (pos 0) ≡ true → (n : ℕ) × (n < 2147483648) × (negsuc 0 -ℤ z ≡ pos n) × (4294967295 - n ≡ unsigned z)
-unfolding unsigned
-negative (pos n) f e = absurd (omega (arith, ltb-true n 0 e))
-negative (negsuc n) f e = (n, f .sfits, rw (le-ltb (suc n) 1 (omega arith)) (ap pos (omega arith)), refl)
-
-pub natural : (z : ℤ) → ltZ z (pos 0) ≡ false → T (nonNeg z) × (natAbs z ≡ unsigned z)
-unfolding unsigned
-natural (pos n) e = (tt, refl)
-natural (negsuc n) e = absurd (true≢false e)
-
--- ---- rounding: the quotient toward zero, and a step from the rest
 
 mag-neg : (k : ℕ) {n : ℕ} → k ≤ suc n → mag (negℤ (pos k)) ≤ n
 mag-neg zero h = omega arith

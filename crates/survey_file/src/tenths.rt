@@ -1,8 +1,8 @@
 // Filed heights, in tenths of a millimetre.
 use crate::HEADER;
-use crate::words::as_signed;
-use crate::words::as_unsigned;
-use crate::words::word_at;
+use words::as_signed;
+use words::as_unsigned;
+use words::word_at;
 ghost use mathlib.Core.Path.{_≡_};
 ghost use mathlib.Core.Bool.{true};
 ghost use Prim.Native.Nat.{_+_, _≤_};

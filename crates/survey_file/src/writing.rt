@@ -2,10 +2,10 @@
 use crate::HEADER;
 use crate::VERSION;
 use crate::tenths::filed;
-use crate::words::put_word;
 use limits::heights_verdict;
 use limits::plot_verdict;
 use surface::Answer;
+use words::put_word;
 ghost use mathlib.Core.Path.{_≡_};
 ghost use mathlib.Core.Bool.{true};
 ghost use Prim.Native.Nat.{_≤_};

@@ -1,4 +1,4 @@
--- `survey_file::words::as_unsigned` meets its contract, below zero and from zero on.
+-- `words::as_unsigned` meets its contract, below zero and from zero on.
 use Prim.Native.Nat.{ℕ, _-_, _<_}
 use native.Mathlib.Omega.{arith}
 use mathlib.Core.Path.{_≡_}
@@ -9,9 +9,9 @@ use mir.Syntax.{w32}
 use mir.Val.{toZ, ofZ}
 use mir.Facts.{toZ-ofZ, toZ-pos, fits-natAbs}
 use Rattle.surface.specs.SurveyFile.{unsigned}
-use Rattle.survey_file.proofs.Numbers.{negative, natural}
-use Rattle.survey_file.proofs.words.as_unsigned.Statement.{statement}
-use Rattle.survey_file.proofs.words.as_unsigned.Tie as tie
+use Rattle.words.proofs.Bits.{negative, natural}
+use Rattle.words.proofs.as_unsigned.Statement.{statement}
+use Rattle.words.proofs.as_unsigned.Tie as tie
 
 -- a local holds its number's bits, which are read back as the number
 bits : (c : tie.Start) → toZ w32 (ofZ w32 (c .args .z)) ≡ c .args .z

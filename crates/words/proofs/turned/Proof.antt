@@ -1,9 +1,9 @@
--- `survey_file::words::turned` meets its contract: a byte is below 256, so that no sum wraps.
+-- `words::turned` meets its contract: a byte is below 256, so that no sum wraps.
 use native.Mathlib.Omega.{arith}
 use borrow.Author.Needs.{needs}
 use Rattle.surface.specs.SurveyFile.{wordAt, bytesOf}
-use Rattle.survey_file.proofs.words.turned.Statement.{statement}
-use Rattle.survey_file.proofs.words.turned.Tie as tie
+use Rattle.words.proofs.turned.Statement.{statement}
+use Rattle.words.proofs.turned.Tie as tie
 
 returns : tie.Need-returns
 unfolding wordAt bytesOf

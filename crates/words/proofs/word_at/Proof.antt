@@ -1,12 +1,12 @@
--- `survey_file::words::word_at` meets its contract: each byte is below 256, so that no sum wraps and each byte is found again.
+-- `words::word_at` meets its contract: each byte is below 256, so that no sum wraps and each byte is found again.
 use Prim.Native.Nat.{ℕ, _+_, _*_, _/_, _%_, _<_}
 use native.Mathlib.Omega.{arith}
 use mathlib.Core.Path.{_≡_, _∙_}
 use mathlib.Core.List.{reverse}
 use borrow.Author.Needs.{needs}
 use Rattle.surface.specs.SurveyFile.{wordAt, bytesOf}
-use Rattle.survey_file.proofs.words.word_at.Statement.{statement}
-use Rattle.survey_file.proofs.words.word_at.Tie as tie
+use Rattle.words.proofs.word_at.Statement.{statement}
+use Rattle.words.proofs.word_at.Tie as tie
 
 module _ (a b c d : ℕ) (ha : a < 256) (hb : b < 256) (hc : c < 256) (hd : d < 256) where
   abbrev n : ℕ

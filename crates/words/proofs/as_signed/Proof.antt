@@ -1,4 +1,4 @@
--- `survey_file::words::as_signed` meets its contract, by the laws of `signed` below and from half the range on.
+-- `words::as_signed` meets its contract, by the laws of `signed` below and from half the range on.
 use Prim.Native.Nat.{_-_}
 use mathlib.Core.Path.{_≡_}
 use borrow.Author.Needs.{needs}
@@ -7,9 +7,9 @@ use mir.Syntax.{w32}
 use mir.Val.{toZ, SFits}
 use mir.Facts.{toZ-ofZ}
 use Rattle.surface.specs.SurveyFile.{signed}
-use Rattle.survey_file.proofs.Numbers.{signed-is, signed-high, signed-fits}
-use Rattle.survey_file.proofs.words.as_signed.Statement.{statement}
-use Rattle.survey_file.proofs.words.as_signed.Tie as tie
+use Rattle.words.proofs.Bits.{signed-is, signed-high, signed-fits}
+use Rattle.words.proofs.as_signed.Statement.{statement}
+use Rattle.words.proofs.as_signed.Tie as tie
 
 module _ (c : tie.Else1) where
   high : negsuc 0 -ℤ toZ w32 (4294967295 - c .before .args .n) ≡ signed (c .before .args .n)

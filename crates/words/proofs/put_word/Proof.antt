@@ -1,11 +1,11 @@
--- `survey_file::words::put_word` meets its contract: its four stores are the run of stores that the contract names.
+-- `words::put_word` meets its contract: its four stores are the run of stores that the contract names.
 use native.Mathlib.Omega.{arith}
 use native.Mathlib.Numerals.{towards-suc}
 use borrow.Author.Needs.{needs}
 use lib.ListN.{length-set}
 use Rattle.surface.specs.SurveyFile.{bytesOf}
-use Rattle.survey_file.proofs.words.put_word.Statement.{statement}
-use Rattle.survey_file.proofs.words.put_word.Tie as tie
+use Rattle.words.proofs.put_word.Statement.{statement}
+use Rattle.words.proofs.put_word.Tie as tie
 
 returns : tie.Need-returns
 unfolding bytesOf

@@ -6,14 +6,14 @@ ghost use lib.ListN.{length};
 ghost use lib.Seq.{sets};
 ghost use Rattle.surface.specs.SurveyFile.{wordAt, bytesOf, signed, unsigned};
 
-pub(crate) fn wide(x: u8) -> u32
+pub fn wide(x: u8) -> u32
     ensures { λ r. ⌜ (r ≡ x) × (r < 256) ⌝ }
 {
     x as u32
 }
 
 // The number at byte i. It is put together from its last byte on and then turned, so that the compiler loads and turns four numbers at a time.
-pub(crate) fn word_at(file: &[u8], i: usize) -> u32
+pub fn word_at(file: &[u8], i: usize) -> u32
     requires { ⌜ i + 4 ≤ length (now file) ⌝ }
     ensures { λ r. ⌜ r ≡ wordAt (now (file .entry)) i ⌝ }
 {
@@ -32,7 +32,7 @@ fn turned(n: u32) -> u32
 }
 
 // Puts the number n at byte i.
-pub(crate) fn put_word(file: &mut [u8], i: usize, n: u32)
+pub fn put_word(file: &mut [u8], i: usize, n: u32)
     requires { ⌜ i + 4 ≤ length (now file) ⌝ }
     ensures { λ _. ⌜ now (file .exit) ≡ sets (now (file .entry)) i (bytesOf n) ⌝ }
 {
@@ -43,7 +43,7 @@ pub(crate) fn put_word(file: &mut [u8], i: usize, n: u32)
 }
 
 // A 32-bit number read as signed.
-pub(crate) fn as_signed(n: u32) -> i32
+pub fn as_signed(n: u32) -> i32
     ensures { λ r. ⌜ r ≡ signed n ⌝ }
 {
     if n < 2147483648 {
@@ -54,7 +54,7 @@ pub(crate) fn as_signed(n: u32) -> i32
 }
 
 // The 32 bits of a signed number.
-pub(crate) fn as_unsigned(z: i32) -> u32
+pub fn as_unsigned(z: i32) -> u32
     ensures { λ r. ⌜ r ≡ unsigned z ⌝ }
 {
     if z < 0 {
