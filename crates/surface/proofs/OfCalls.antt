@@ -8,5 +8,7 @@ pub mod FileCalls
 pub mod RoundTrip
 pub mod Series
 pub mod Demand
+pub mod Sheets
 pub mod Starred
 pub mod StarListing
+pub mod ExampleSheets

@@ -3,6 +3,7 @@
 -- An accepted call answers 0, 0 and its values. A refused one answers its number and place and 0 for each value, and leaves every list.
 use Prim.Native.Nat.{ℕ, _*_}
 use mathlib.Core.List.{List, _++_}
+use lib.Dec.{eqb}
 use lib.IntN.{ℤ}
 use lib.ListN.{length, getD, set, drop}
 use Rattle.surface.specs.Plot.{Plot, posts, reshot}
@@ -10,16 +11,49 @@ use Rattle.surface.specs.Marks.{markAt, marksOf, redrawn, peaks, pits, s
 use Rattle.surface.specs.Codes.{ringBytes, runsBelow}
 use Rattle.surface.specs.Lines.{Descent, next, line, down, up, dalesOf, hillsOf}
 use Rattle.surface.specs.SurveyFile.{heightsIn, fileOf}
-use Rattle.surface.specs.Refusals.{settled, surveyVerdict, reshootVerdict, ringVerdict, nextVerdict, lineVerdict, partsVerdict, readVerdict, writeVerdict}
+use Rattle.surface.specs.Settings.{ruleIn, nameIn, nameBytes}
+use Rattle.surface.specs.Refusals.{settled, sheetVerdict, settingsVerdict, surveyVerdict, reshootVerdict, ringVerdict, nextVerdict, lineVerdict, partsVerdict, readVerdict, writeVerdict}
 use Rattle.surface.specs.declared.Answer.{Answer}
+use Rattle.surface.specs.declared.Sheet.{Sheet}
 use Rattle.surface.specs.declared.Counts.{Counts}
 use Rattle.surface.specs.declared.RingMark.{RingMark}
 use Rattle.surface.specs.declared.Next.{Next}
 use Rattle.surface.specs.declared.Entries.{Entries}
 use Rattle.surface.specs.declared.Size.{Size}
 
+-- a sheet's rule and the length of its name, by a verdict
+abbrev pub saidBy : Answer → List ℕ → Sheet
+saidBy v sheet =
+    record { code = v .code; place = v .place; rule = settled v (ruleIn sheet) 0; named = settled v (length (nameIn sheet)) 0 }
+
+-- what a call makes of its settings sheet, and the plot that it is lent with that sheet
+unfoldable pub sheetSays : List ℕ → Sheet
+sheetSays sheet = saidBy (sheetVerdict sheet) sheet
+
+abbrev pub plotSaid : Sheet → ℕ → ℕ → List ℤ → Plot
+plotSaid said rows columns heights =
+    record {
+      rows = rows;
+      columns = columns;
+      heights = heights;
+      badSheet = eqb (said .code) 13;
+      badEntry = eqb (said .code) 14;
+      highest = eqb (said .rule) 2;
+    }
+
+abbrev pub plotBy : List ℕ → ℕ → ℕ → List ℤ → Plot
+plotBy sheet = plotSaid (sheetSays sheet)
+
+-- settings(sheet, name)
+unfoldable pub settingsAnswer : List ℕ → List ℕ → Sheet
+settingsAnswer sheet name = saidBy (settingsVerdict sheet name) sheet
+
+unfoldable pub settingsName : List ℕ → List ℕ → List ℕ
+settingsName sheet name = settled (settingsVerdict sheet name) (nameBytes sheet) name
+
+-- The calls of a plot, which is lent as sheet, rows, columns and heights, or, to write a file, without a sheet.
 module _ (pl : Plot) where
-  -- survey(rows, columns, heights, marks)
+  -- survey(sheet, rows, columns, heights, marks)
   unfoldable pub surveyMarks : List ℕ → List ℕ
   surveyMarks marks = settled (surveyVerdict pl marks) (marksOf pl) marks
 
@@ -34,7 +68,7 @@ module _ (pl : Plot) where
         saddles = settled v (saddles (marksOf pl)) 0;
       }
 
-  -- reshoot(rows, columns, heights, marks, post, height)
+  -- reshoot(sheet, rows, columns, heights, marks, post, height)
   unfoldable pub reshootHeights : List ℕ → ℕ → ℤ → List ℤ
   reshootHeights marks post new = settled (reshootVerdict pl marks post new) (set pl.heights post new) pl.heights
 
@@ -44,7 +78,7 @@ module _ (pl : Plot) where
   unfoldable pub reshootAnswer : List ℕ → ℕ → ℤ → Answer
   reshootAnswer marks post new = reshootVerdict pl marks post new
 
-  -- ring(rows, columns, heights, post, ring)
+  -- ring(sheet, rows, columns, heights, post, ring)
   unfoldable pub ringAnswer : ℕ → List ℕ → RingMark
   ringAnswer post ring =
       let v = ringVerdict pl post ring in
@@ -53,7 +87,7 @@ module _ (pl : Plot) where
   unfoldable pub ringList : ℕ → List ℕ → List ℕ
   ringList post ring = settled (ringVerdict pl post ring) (ringBytes pl post) ring
 
-  -- next_down(rows, columns, heights, post), next_up(..)
+  -- next_down(sheet, rows, columns, heights, post), next_up(..)
   abbrev pub nextAnswer : Descent → ℕ → Next
   nextAnswer d post =
       let v = nextVerdict pl post in
@@ -65,7 +99,7 @@ module _ (pl : Plot) where
   unfoldable pub nextUpAnswer : ℕ → Next
   nextUpAnswer = nextAnswer (up pl)
 
-  -- thalweg(rows, columns, heights, post, run, line), ridge(..): how many entries the line has, 0 where it was refused; and its list, with the
+  -- thalweg(sheet, rows, columns, heights, post, run, line), ridge(..): how many entries the line has, 0 where it was refused; and its list, with the
   -- entries at the front, where later ones keep their content
   abbrev pub lineAnswer : Descent → ℕ → ℕ → List ℕ → Entries
   lineAnswer d post run list =
@@ -89,7 +123,7 @@ module _ (pl : Plot) where
   unfoldable pub ridgeList : ℕ → ℕ → List ℕ → List ℕ
   ridgeList = lineList (up pl)
 
-  -- dales_and_hills(rows, columns, heights, dales, hills)
+  -- dales_and_hills(sheet, rows, columns, heights, dales, hills)
   unfoldable pub partsAnswer : List ℕ → List ℕ → Answer
   partsAnswer dales hills = partsVerdict pl dales hills
 

@@ -5,7 +5,7 @@ use mathlib.Core.Bool.{Bool, true, false, cond, not, _&&_, _||_}
 use mathlib.Core.List.{List, [], _∷_, _++_}
 use lib.Dec.{T, eqb}
 use Rattle.surface.specs.Lists.{keep, all, takeWhile, lastOr}
-use Rattle.surface.specs.Plot.{Plot, row, column, virtualPit, below, reversed}
+use Rattle.surface.specs.Plot.{Plot, row, column, virtualPit, below, reversed, directed}
 
 -- the lower of two, in an order, and the lowest of x and the members of a list
 abbrev pub lowerOf : (ℕ → ℕ → Bool) → ℕ → ℕ → ℕ
@@ -43,15 +43,15 @@ abbrev pub isCell : ℕ → ℕ → ℕ → Bool
 isCell rows columns a = not (right columns a) && not (bottom rows columns a)
 
 -- A choice of diagonals says of each cell a whether its diagonal falls, from top left to bottom right, or rises, from bottom left to top right.
--- One choice is the diagonal through the cell's lowest post in an order.
+-- One choice is the diagonal through the cell's lowest post in an order; through its highest is through its lowest in the reversed order.
 unfoldable pub throughLowest : (ℕ → ℕ → Bool) → ℕ → ℕ → Bool
 throughLowest lower columns a =
     let l = lowest lower (a ∷ (a + 1) ∷ (a + columns) ∷ (a + columns + 1) ∷ []) in
     eqb l a || eqb l (a + columns + 1)
 
--- the diagonals of a plot
+-- the diagonals of a plot: rule 1, through the lowest posts, or rule 2, through the highest
 abbrev pub fallsIn : Plot → ℕ → Bool
-fallsIn pl = throughLowest (below pl) pl.columns
+fallsIn pl = throughLowest (directed pl.highest (below pl)) pl.columns
 
 -- Edges: the sides of cells, their diagonals, and one from each border post to the virtual pit.
 pub data Corner : Type 0 where

@@ -7,11 +7,11 @@ use lib.Dec.{ltb, eqb}
 use lib.IntN.{pos}
 use lib.ListN.{length, getD, take, replicate}
 use Rattle.surface.specs.Lists.{listOf, lastOr}
-use Rattle.surface.specs.Plot.{Plot, plot, posts, virtualPit}
+use Rattle.surface.specs.Plot.{Plot, posts, virtualPit}
 use Rattle.surface.specs.Marks.{markAt, marksOf, peaks, pits, saddles}
 use Rattle.surface.specs.Lines.{Descent, runsOf, line, down, up}
 use Rattle.surface.specs.SurveyFile.{fileOf}
-use Rattle.surface.specs.Calls.{readAnswer, readHeights}
+use Rattle.surface.specs.Calls.{sheetSays, plotBy, readAnswer, readHeights}
 use Rattle.surface.specs.Bench.{star}
 
 -- a number in decimal digits, without leading zeros; ten digits are enough for 32 bits
@@ -64,22 +64,29 @@ module _ (pl : Plot) where
 unfoldable pub refusedText : ℕ → ℕ → List ℕ
 refusedText code place = textLine 69 (decimal code ∷ decimal place ∷ [])
 
--- what is printed for a file; the list that receives the heights has the size that the file's rows and columns ask
-unfoldable pub listing : List ℕ → List ℕ
-listing file =
+-- what is printed for a settings sheet and a file; the list that receives the heights has the size that the file's rows and columns ask
+unfoldable pub fileListing : List ℕ → List ℕ → List ℕ
+fileListing sheet file =
     let lent = replicate (getD file 5 0 * getD file 6 0) (pos 0) in
     let a = readAnswer file lent in
-    cond (eqb (a .code) 0) (plotText (plot (a .rows) (a .columns) (readHeights file lent))) (refusedText (a .code) (a .place))
+    cond (eqb (a .code) 0) (plotText (plotBy sheet (a .rows) (a .columns) (readHeights file lent))) (refusedText (a .code) (a .place))
 
--- at most 57,608 bytes of standard input are looked at. (No contract speaks of what a program reads or prints: that the lister prints this is tested.)
-unfoldable pub printed : List ℕ → List ℕ
-printed input = listing (take 57608 input)
+-- a refusal of the sheet comes first
+unfoldable pub listing : List ℕ → List ℕ → List ℕ
+listing sheet file =
+    let said = sheetSays sheet in
+    cond (eqb (said .code) 0) (fileListing sheet file) (refusedText (said .code) (said .place))
+
+-- at most 43 bytes of the sheet and 57,608 of standard input are looked at. (No contract speaks of what a program reads or prints: that the lister prints
+-- this is tested.)
+unfoldable pub printed : List ℕ → List ℕ → List ℕ
+printed sheet input = listing (take 43 sheet) (take 57608 input)
 
 -- the listing of the star plot
 --     N 3 3 4 1 3 / T 4 0 V / T 4 1 V / T 4 2 V / T 4 3 V / R 4 0 1 / R 4 1 5 / R 4 2 7 / R 4 3 3
 abbrev pub StarListing : Type 0
 StarListing =
-    printed (fileOf star)
+    printed [] (fileOf star)
     ≡ textLine 78 ((51 ∷ []) ∷ (51 ∷ []) ∷ (52 ∷ []) ∷ (49 ∷ []) ∷ (51 ∷ []) ∷ [])
     ++ textLine 84 ((52 ∷ []) ∷ (48 ∷ []) ∷ (86 ∷ []) ∷ [])
     ++ textLine 84 ((52 ∷ []) ∷ (49 ∷ []) ∷ (86 ∷ []) ∷ [])

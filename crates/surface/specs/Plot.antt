@@ -1,7 +1,7 @@
 -- docs/SPECIFICATION.md, "Plot, posts and height order".
 use Prim.Native.Nat.{ℕ, _*_, _/_, _%_, _≤_, _<_}
 use mathlib.Core.Path.{_≡_}
-use mathlib.Core.Bool.{Bool, true, not, _&&_, _||_}
+use mathlib.Core.Bool.{Bool, true, false, cond, not, _&&_, _||_}
 use mathlib.Core.List.{List}
 use mathlib.Core.Logic.{_⊎_}
 use lib.Dec.{leb, ltb, eqb}
@@ -25,17 +25,31 @@ isSide n = leb 2 n && leb n maxSide
 abbrev pub isHeight : ℤ → Bool
 isHeight z = not (ltZ z (negsuc 999999)) && not (ltZ (pos 1000000) z)
 
--- a plot: its rows, its columns, and the heights of its posts
+-- the rule by which cells are cut, 1 through the lowest post of each or 2 through the highest, where nothing is said
+abbrev pub defaultRule : ℕ
+defaultRule = 1
+
+-- a plot as it is lent: its rows, its columns, the heights of its posts, and what its settings sheet says ("Settings sheet"): whether it, or an entry
+-- of it, is bad, for which calls are refused, and whether cells are cut through their highest posts
 pub record Plot : Type 0 where
   pub rows : ℕ
   pub columns : ℕ
   pub heights : List ℤ
+  pub badSheet : Bool
+  pub badEntry : Bool
+  pub highest : Bool
 
+-- one whose sheet is not bad
+abbrev pub ruled : Bool → ℕ → ℕ → List ℤ → Plot
+ruled highest rows columns heights =
+    record { rows = rows; columns = columns; heights = heights; badSheet = false; badEntry = false; highest = highest }
+
+-- one without a sheet
 abbrev pub plot : ℕ → ℕ → List ℤ → Plot
-plot rows columns heights = record { rows = rows; columns = columns; heights = heights }
+plot = ruled (eqb defaultRule 2)
 
 abbrev pub plotOf : Grid → List ℤ → Plot
-plotOf grid heights = plot (grid .rows) (grid .columns) heights
+plotOf grid heights = ruled (grid .highest) (grid .rows) (grid .columns) heights
 
 -- how many posts it has
 abbrev pub posts : Plot → ℕ
@@ -43,7 +57,8 @@ posts pl = pl.rows * pl.columns
 
 -- the plot with other heights, and with one other height
 abbrev pub over : Plot → List ℤ → Plot
-over pl heights = record { rows = pl.rows; columns = pl.columns; heights = heights }
+over pl heights =
+    record { rows = pl.rows; columns = pl.columns; heights = heights; badSheet = pl.badSheet; badEntry = pl.badEntry; highest = pl.highest }
 
 abbrev pub reshot : Plot → ℕ → ℤ → Plot
 reshot pl p new = over pl (set pl.heights p new)
@@ -79,6 +94,10 @@ tied pl p q =
 -- an order the other way round: what is stated of "below" in one holds of "above" in the other
 abbrev pub reversed : (ℕ → ℕ → Bool) → ℕ → ℕ → Bool
 reversed lower p q = lower q p
+
+-- an order, or the reversed one
+abbrev pub directed : Bool → (ℕ → ℕ → Bool) → ℕ → ℕ → Bool
+directed upward lower = cond upward (reversed lower) lower
 
 -- the sides that a plot may have
 pub record Sides (rows columns : ℕ) : Type 0 where

@@ -1,7 +1,7 @@
 -- docs/SPECIFICATION.md, "Refusals": the table, and for each call the rows that it has a use for, in order.
 use Prim.Native.Nat.{ℕ, _-_, _*_}
 use mathlib.Core.Bool.{Bool, cond, not, _&&_, _||_}
-use mathlib.Core.List.{List, [], _∷_}
+use mathlib.Core.List.{List, [], _∷_, _++_}
 use lib.Dec.{ltb, eqb}
 use lib.IntN.{ℤ}
 use lib.ListN.{length, getD}
@@ -11,6 +11,7 @@ use Rattle.surface.specs.Marks.{markAt}
 use Rattle.surface.specs.Codes.{ringLength}
 use Rattle.surface.specs.Lines.{Descent, runsOf, line}
 use Rattle.surface.specs.SurveyFile.{statedCount, countFor, fileSize, isTenths, tenthsOf}
+use Rattle.surface.specs.Settings.{isBadSheet, hasBadEntry, nameLength}
 use Rattle.surface.specs.declared.Answer.{Answer}
 
 -- a row of the table: when it holds, what is returned and the place
@@ -92,43 +93,37 @@ abbrev pub row12 : List ℕ → ℕ → ℕ → Row
 row12 file rows columns =
     rowOf 12 (not (eqb (statedCount file) (length file - 5)) || not (eqb (statedCount file) (countFor rows columns)))
 
+-- 13: a bad settings sheet; 14: a bad entry of it
+abbrev pub row13 : Bool → Row
+row13 badSheet = rowOf 13 badSheet
+
+abbrev pub row14 : Bool → Row
+row14 badEntry = rowOf 14 badEntry
+
 -- What each call is turned away for.
 module _ (pl : Plot) where
+  -- the rows that lead every call with a settings sheet
+  abbrev pub leading : List Row
+  leading = row13 pl.badSheet ∷ row14 pl.badEntry ∷ row1 pl.rows pl.columns ∷ row2 pl ∷ []
+
   unfoldable pub surveyVerdict : List ℕ → Answer
-  surveyVerdict marks =
-      verdict (row1 pl.rows pl.columns ∷ row2 pl ∷ row3 marks (posts pl) ∷ row4 isHeight pl.heights ∷ [])
+  surveyVerdict marks = verdict (leading ++ row3 marks (posts pl) ∷ row4 isHeight pl.heights ∷ [])
 
   unfoldable pub reshootVerdict : List ℕ → ℕ → ℤ → Answer
-  reshootVerdict marks post new =
-      verdict
-      (row1 pl.rows pl.columns
-      ∷ row2 pl
-      ∷ row3 marks (posts pl)
-      ∷ row4 isHeight pl.heights
-      ∷ row5 pl post
-      ∷ row6 new
-      ∷ [])
+  reshootVerdict marks post new = verdict (leading ++ row3 marks (posts pl) ∷ row4 isHeight pl.heights ∷ row5 pl post ∷ row6 new ∷ [])
 
   unfoldable pub ringVerdict : ℕ → List ℕ → Answer
-  ringVerdict post ring =
-      verdict
-      (row1 pl.rows pl.columns
-      ∷ row2 pl
-      ∷ row3 ring ringLength
-      ∷ row4 isHeight pl.heights
-      ∷ row5 pl post
-      ∷ [])
+  ringVerdict post ring = verdict (leading ++ row3 ring ringLength ∷ row4 isHeight pl.heights ∷ row5 pl post ∷ [])
 
   unfoldable pub nextVerdict : ℕ → Answer
-  nextVerdict post = verdict (row1 pl.rows pl.columns ∷ row2 pl ∷ row4 isHeight pl.heights ∷ row5 pl post ∷ [])
+  nextVerdict post = verdict (leading ++ row4 isHeight pl.heights ∷ row5 pl post ∷ [])
 
   -- of a line downward or upward
   unfoldable pub lineVerdict : Descent → ℕ → ℕ → List ℕ → Answer
   lineVerdict d post run list =
       verdict
-      (row1 pl.rows pl.columns
-      ∷ row2 pl
-      ∷ row4 isHeight pl.heights
+      (leading
+      ++ row4 isHeight pl.heights
       ∷ row5 pl post
       ∷ row7 pl post
       ∷ row8 d post run
@@ -137,16 +132,18 @@ module _ (pl : Plot) where
 
   unfoldable pub partsVerdict : List ℕ → List ℕ → Answer
   partsVerdict dales hills =
-      verdict
-      (row1 pl.rows pl.columns
-      ∷ row2 pl
-      ∷ rowOf 3 (isNot dales (posts pl) || isNot hills (posts pl))
-      ∷ row4 isHeight pl.heights
-      ∷ [])
+      verdict (leading ++ rowOf 3 (isNot dales (posts pl) || isNot hills (posts pl)) ∷ row4 isHeight pl.heights ∷ [])
 
   unfoldable pub writeVerdict : List ℕ → Answer
   writeVerdict file =
       verdict (row1 pl.rows pl.columns ∷ row2 pl ∷ row3 file (fileSize pl.rows pl.columns) ∷ row4 isHeight pl.heights ∷ [])
+
+-- of a settings sheet alone, and with a list that receives the name
+unfoldable pub sheetVerdict : List ℕ → Answer
+sheetVerdict sheet = verdict (row13 (isBadSheet sheet) ∷ row14 (hasBadEntry sheet) ∷ [])
+
+unfoldable pub settingsVerdict : List ℕ → List ℕ → Answer
+settingsVerdict sheet name = verdict (row13 (isBadSheet sheet) ∷ row14 (hasBadEntry sheet) ∷ row3 name nameLength ∷ [])
 
 -- of reading a file into a list that receives the heights
 unfoldable pub readVerdict : List ℕ → List ℤ → Answer

@@ -4,12 +4,13 @@ use mathlib.Core.Path.{_≡_}
 use mathlib.Core.List.{List, [], _∷_}
 use lib.IntN.{ℤ}
 use lib.ListN.{length, replicate, set}
-use Rattle.surface.specs.Plot.{Plot, plot, over}
+use Rattle.surface.specs.Plot.{Plot, over}
 use Rattle.surface.specs.Refusals.{settled, reshootVerdict}
-use Rattle.surface.specs.Calls.{reshootHeights, reshootMarks, reshootAnswer}
+use Rattle.surface.specs.Calls.{plotBy, reshootHeights, reshootMarks, reshootAnswer}
 
 -- a re-shoot's arguments, the two lists left out
 pub record Reshoot : Type 0 where
+  pub sheet : List ℕ
   pub rows : ℕ
   pub columns : ℕ
   pub post : ℕ
@@ -17,7 +18,7 @@ pub record Reshoot : Type 0 where
 
 -- the plot that it speaks of, where these heights are lent to it
 abbrev pub asked : Reshoot → List ℤ → Plot
-asked c heights = plot (c .rows) (c .columns) heights
+asked c heights = plotBy (c .sheet) (c .rows) (c .columns) heights
 
 -- the two lists that a series is about
 pub record Marked : Type 0 where
@@ -36,7 +37,7 @@ unfoldable pub afterCalls : Marked → List Reshoot → Marked
 afterCalls s [] = s
 afterCalls s (c ∷ cs) = afterCalls (afterCall s c) cs
 
--- the accepted ones have the surveyed rows and columns: they speak of `pl`, with the heights that are lent
+-- the accepted ones have the surveyed rows and columns, and their sheets mean the survey's rule: they speak of `pl`, with the heights that are lent
 unfoldable pub Kept : Plot → Marked → List Reshoot → Type 0
 Kept pl s [] = Unit {0}
 Kept pl s (c ∷ cs) =

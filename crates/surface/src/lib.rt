@@ -20,18 +20,26 @@ pub const PIT: u8 = 2;
 
 pub const SADDLE: u8 = 3;
 
-// The bytes of a ring's list.
+// The bytes of a ring's list, and of a name's.
 pub const RING_LENGTH: usize = 8;
+
+pub const NAME_LENGTH: usize = 32;
+
+// The rule by which cells are cut through their highest posts, and the one where nothing is said.
+pub const HIGHEST_RULE: u32 = 2;
+
+pub const DEFAULT_RULE: u32 = 1;
 
 // Which way a walk goes: down to a pit or up to a peak.
 pub const DOWN: bool = false;
 
 pub const UP: bool = true;
 
-// The sides of a plot whose heights are lent beside it.
+// The sides of a plot whose heights are lent beside it, and whether its cells are cut through their highest posts.
 pub struct Grid {
     pub rows: usize,
     pub columns: usize,
+    pub highest: bool,
 }
 
 // What every call answers: the refusal's number and place, 0 and 0 where it was accepted, and then its values, all 0 where it was refused.
@@ -39,6 +47,15 @@ pub struct Grid {
 pub struct Answer {
     pub code: u32,
     pub place: u32,
+}
+
+// sn_settings, and what every call makes of its settings sheet: the rule, and how many bytes the plot's name has
+#[repr(C)]
+pub struct Sheet {
+    pub code: u32,
+    pub place: u32,
+    pub rule: u32,
+    pub named: u32,
 }
 
 // sn_survey

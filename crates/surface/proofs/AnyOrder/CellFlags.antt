@@ -8,9 +8,11 @@ use mathlib.Core.Bool.{Bool, true, false, cond, not, _&&_, _||_, true≢false, o
 use mathlib.Core.List.{[], _∷_}
 use lib.Dec.{eqb}
 use borrow.Author.Tests.{eq-eqb, ne-eqb}
+use Rattle.surface.specs.Plot.{directed}
 use Rattle.surface.specs.Edges.{throughLowest, lowest, lowestOr}
+use Rattle.surface.specs.Flags.{flipped}
 use Rattle.surface.proofs.General.Bools.{either}
-use Rattle.surface.proofs.AnyOrder.Order.{StrictTotal}
+use Rattle.surface.proofs.AnyOrder.Order.{StrictTotal, directed-strict, directed-flipped}
 
 -- the diagonal of a cell falls, by its flags: of the north-western post to the east, south and south-east, of the north-eastern one to the south, and
 -- of the south-western one to the east
@@ -174,9 +176,18 @@ module _ (lower : ℕ → ℕ → Bool) (o : StrictTotal lower) (a b c d : ℕ) 
   unfolding throughLowest outer
   falls-is columns ib ic id = rw (sym id, sym ic, sym ib) outer-by
 
--- the diagonal through the lowest post, by five flags
-pub falls-by-flags : (lower : ℕ → ℕ → Bool) → StrictTotal lower → (columns a : ℕ) → 2 ≤ columns
-    → throughLowest lower columns a
-    ≡ fallsBy (lower (a + 1) a) (lower (a + columns) a) (lower (a + columns + 1) a) (lower (a + columns + 1) (a + 1)) (lower (a + columns + 1) (a + columns))
-falls-by-flags lower o columns a wide =
-    falls-is lower o a (a + 1) (a + columns) (a + columns + 1) (omega arith) (omega arith) (omega arith) columns refl refl refl
+-- the diagonal through the lowest post, or the highest, by five flags
+pub falls-by-flags : (lower : ℕ → ℕ → Bool) → StrictTotal lower → (highest : Bool) (columns a : ℕ) → 2 ≤ columns
+    → throughLowest (directed highest lower) columns a
+    ≡ fallsBy (flipped highest (lower (a + 1) a)) (flipped highest (lower (a + columns) a)) (flipped highest (lower (a + columns + 1) a))
+    (flipped highest (lower (a + columns + 1) (a + 1)))
+    (flipped highest (lower (a + columns + 1) (a + columns)))
+falls-by-flags lower o highest columns a wide =
+    falls-is (directed highest lower) (directed-strict highest o) a (a + 1) (a + columns) (a + columns + 1) (omega arith) (omega arith) (omega arith) columns refl refl refl
+    ∙ rw (
+      directed-flipped highest o (a + 1) a (λ e. omega arith),
+      directed-flipped highest o (a + columns) a (λ e. omega arith),
+      directed-flipped highest o (a + columns + 1) a (λ e. omega arith),
+      directed-flipped highest o (a + columns + 1) (a + 1) (λ e. omega arith),
+      directed-flipped highest o (a + columns + 1) (a + columns) (λ e. omega arith),
+    )

@@ -4,7 +4,7 @@ use mathlib.Core.Path.{_≡_, refl, ap}
 use mathlib.Core.Bool.{Bool, true, false, not, _&&_}
 use mathlib.Core.List.{[], _∷_, List·Memᴰ, List·Memᴰ·head, List·Memᴰ·tail}
 use native.Mathlib.Omega.{arith}
-use Rattle.surface.specs.Plot.{virtualPit, Sides}
+use Rattle.surface.specs.Plot.{virtualPit, directed, Sides}
 use Rattle.surface.specs.Edges.{top, bottom, left, right, Corner, nw, ne, sw, se, corner, throughLowest, places, ring}
 use Rattle.surface.specs.Marks.{mark, touches}
 use Rattle.surface.proofs.AnyOrder.RingPlaces.{Stands, atN, atNE, atE, atSE, atS, atSW, atW, atNW, atPit, ring-place}
@@ -20,6 +20,11 @@ pub data Touching (rows columns p u : ℕ) : Type 0 where
 -- two orders agree there
 abbrev pub AgreeRound : ℕ → ℕ → (ℕ → ℕ → Bool) → (ℕ → ℕ → Bool) → ℕ → Type 0
 AgreeRound rows columns lower lower′ p = (u v : ℕ) → Touching rows columns p u → Touching rows columns p v → lower u v ≡ lower′ u v
+
+pub directed-agree : {rows columns p : ℕ} {lower lower′ : ℕ → ℕ → Bool} (upward : Bool) → AgreeRound rows columns lower lower′ p
+    → AgreeRound rows columns (directed upward lower) (directed upward lower′) p
+directed-agree true same u v tu tv = same v u tv tu
+directed-agree false same u v tu tv = same u v tu tv
 
 -- two choices of diagonals agree on the cells round p
 abbrev pub CellsAgree : ℕ → ℕ → (ℕ → Bool) → (ℕ → Bool) → ℕ → Type 0

@@ -6,7 +6,8 @@ use mathlib.Core.Path.{_≡_, refl, sym, subst}
 use mathlib.Core.Logic.{_⊎_, ⊎-elim}
 use mathlib.Core.Bool.{Bool, true, false, not}
 use Rattle.surface.specs.Lists.{one}
-use Rattle.surface.specs.Plot.{virtualPit, Vertex, reversed}
+use Rattle.surface.specs.Plot.{virtualPit, Vertex, reversed, directed}
+use Rattle.surface.specs.Flags.{flipped}
 use Rattle.surface.proofs.General.Sum.{sum, sum-const, sum-le, sum-lt}
 
 pub record StrictTotal (lower : ℕ → ℕ → Bool) : Type 0 where
@@ -17,6 +18,15 @@ pub record StrictTotal (lower : ℕ → ℕ → Bool) : Type 0 where
 pub reversed-strict : {lower : ℕ → ℕ → Bool} → StrictTotal lower → StrictTotal (reversed lower)
 reversed-strict o =
     record { irrefl = o .irrefl; other = λ p q h. o .other q p (λ e. h (sym e)); trans = λ p q r h k. o .trans r q p k h }
+
+pub directed-strict : (upward : Bool) {lower : ℕ → ℕ → Bool} → StrictTotal lower → StrictTotal (directed upward lower)
+directed-strict true o = reversed-strict o
+directed-strict false o = o
+
+-- of another vertex the reversed order tells the contrary
+pub directed-flipped : (upward : Bool) {lower : ℕ → ℕ → Bool} → StrictTotal lower → (q p : ℕ) → (q ≡ p → ⊥) → directed upward lower q p ≡ flipped upward (lower q p)
+directed-flipped true o q p h = o .other q p h
+directed-flipped false o q p h = refl
 
 -- how many of n posts and the virtual pit are below p
 unfoldable pub rank : (ℕ → ℕ → Bool) → ℕ → ℕ → ℕ

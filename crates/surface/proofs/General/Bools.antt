@@ -2,10 +2,11 @@
 use Prim.Native.Nat.{_≤_}
 use native.Mathlib.Omega.{arith}
 use mathlib.Core.Path.{_≡_, refl, sym}
-use mathlib.Core.Bool.{Bool, true, false, _&&_, _||_, true≢false}
+use mathlib.Core.Bool.{Bool, true, false, not, _&&_, _||_, true≢false, Bool·beq}
 use lib.Dec.{T}
 use mir.Val.{boolByte}
 use Rattle.surface.specs.Lists.{one}
+use Rattle.surface.specs.Flags.{flipped}
 
 pub and-left : (a b : Bool) → a && b ≡ true → a ≡ true
 and-left true b h = refl
@@ -39,6 +40,13 @@ pub same-test : (a b : Bool) → (a ≡ true → b ≡ true) → (b ≡ true →
 same-test true b f g = sym (f refl)
 same-test false true f g = g refl
 same-test false false f g = refl
+
+-- a flag by the machine's exclusive or
+pub xor-flipped : (x h : Bool) → not (Bool·beq x h) ≡ flipped h x
+xor-flipped true true = refl
+xor-flipped true false = refl
+xor-flipped false true = refl
+xor-flipped false false = refl
 
 -- a flag as a number
 pub flag : (x : Bool) → (boolByte x ≡ one x) × (boolByte x ≤ 1)

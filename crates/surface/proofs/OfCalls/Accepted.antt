@@ -1,7 +1,7 @@
 -- What acceptance says of each call: its lists and numbers are those of a plot.
 use Prim.Native.Nat.{ℕ, _*_, _-_, _<_, _≤_}
 use native.Mathlib.Omega.{arith}
-use mathlib.Core.Path.{_≡_, _∙_, ap}
+use mathlib.Core.Path.{_≡_, _∙_, ap, ap₂}
 use mathlib.Core.Bool.{Bool, true, false, not}
 use mathlib.Core.List.{List, [], _∷_}
 use borrow.Author.Tests.{ltb-true, ltb-false, eqb-true, eq-eqb, lt-ltb, le-ltb, not-false}
@@ -9,12 +9,12 @@ use lib.Dec.{ltb, eqb}
 use lib.IntN.{ℤ}
 use lib.ListN.{length, getD}
 use Rattle.surface.specs.Lists.{firstNot}
-use Rattle.surface.specs.Plot.{Plot, posts, isHeight, Sides, Valid, PostOf}
+use Rattle.surface.specs.Plot.{Plot, ruled, posts, isHeight, Sides, Valid, PostOf}
 use Rattle.surface.specs.Marks.{markAt}
 use Rattle.surface.specs.Codes.{ringLength}
 use Rattle.surface.specs.Lines.{Descent, runsOf, line}
 use Rattle.surface.specs.SurveyFile.{statedCount, countFor, fileSize, isTenths, tenthsOf}
-use Rattle.surface.specs.Refusals.{accepted, verdict, row1, row2, row4, surveyVerdict, reshootVerdict, ringVerdict, lineVerdict, partsVerdict, readVerdict, writeVerdict}
+use Rattle.surface.specs.Refusals.{accepted, verdict, row1, row2, row4, leading, surveyVerdict, reshootVerdict, ringVerdict, lineVerdict, partsVerdict, readVerdict, writeVerdict}
 use Rattle.surface.proofs.General.Bools.{or-left, or-right}
 use Rattle.surface.proofs.General.FirstNot.{firstNot-le, ranged-all, all-firstNot}
 use Rattle.surface.proofs.AnyOrder.Grid.{test-sides, sides-test}
@@ -32,21 +32,37 @@ same m n e = ap not (eq-eqb m n e)
 pub plot-sized : (pl : Plot) → verdict (row1 pl.rows pl.columns ∷ row2 pl ∷ []) .code ≡ 0 → Sides pl.rows pl.columns × (length pl.heights ≡ posts pl)
 plot-sized pl e = let row = passed (row1 pl.rows pl.columns ∷ row2 pl ∷ []) tt e in (test-sides _ _ (not-false _ (row 1)), equal _ _ (row 2))
 
+pub led-sized : (pl : Plot) → verdict (leading pl) .code ≡ 0 → Sides pl.rows pl.columns × (length pl.heights ≡ posts pl)
+led-sized pl e = let row = passed (leading pl) tt e in (test-sides _ _ (not-false _ (row 1)), equal _ _ (row 2))
+
+-- a plot whose settings sheet is not bad; which plot that is
+abbrev pub SheetPasses : Plot → Type 0
+SheetPasses pl = (pl.badSheet ≡ false) × (pl.badEntry ≡ false)
+
+abbrev pub plain : Plot → Plot
+plain pl = ruled pl.highest pl.rows pl.columns pl.heights
+
+pub plot-ruled : (pl : Plot) → SheetPasses pl → pl ≡ plain pl
+plot-ruled pl s =
+    ap₂ (λ (a b : Bool). record { rows = pl.rows; columns = pl.columns; heights = pl.heights; badSheet = a; badEntry = b; highest = pl.highest }) (s .0) (s .1)
+
 module _ (pl : Plot) where
   valid : row1 pl.rows pl.columns .holds ≡ false → row2 pl .holds ≡ false → row4 isHeight pl.heights .holds ≡ false → Valid pl
   valid a b c = record { sides = test-sides _ _ (not-false _ a); size = equal _ _ b; inRange = ranged-all isHeight pl.heights c }
 
   -- a survey is accepted exactly of a plot and as many marks
   pub record ForSurvey (marks : List ℕ) : Type 0 where
+    pub sheet : SheetPasses pl
     pub valid : Valid pl
     pub marksSize : length marks ≡ posts pl
 
   pub survey-valid : (marks : List ℕ) → surveyVerdict pl marks .code ≡ 0 → ForSurvey marks
   unfolding surveyVerdict
-  survey-valid marks e = let row = passed _ tt e in record { valid = valid (row 1) (row 2) (row 4); marksSize = equal _ _ (row 3) }
+  survey-valid marks e = let row = passed _ tt e in record { sheet = (row 13, row 14); valid = valid (row 1) (row 2) (row 4); marksSize = equal _ _ (row 3) }
 
   -- a re-shoot of a plot, as many marks, one of its posts and a height
   pub record ForReshoot (marks : List ℕ) (post : ℕ) (new : ℤ) : Type 0 where
+    pub sheet : SheetPasses pl
     pub valid : Valid pl
     pub marksSize : length marks ≡ posts pl
     pub postIn : post < posts pl
@@ -57,6 +73,7 @@ module _ (pl : Plot) where
   reshoot-valid marks post new e =
       let row = passed _ tt e in
       record {
+        sheet = (row 13, row 14);
         valid = valid (row 1) (row 2) (row 4);
         marksSize = equal _ _ (row 3);
         postIn = ltb-true post (posts pl) (not-false _ (row 5));
@@ -65,6 +82,7 @@ module _ (pl : Plot) where
 
   -- a ring of a post, into eight bytes
   pub record ForRing (post : ℕ) (ring : List ℕ) : Type 0 where
+    pub sheet : SheetPasses pl
     pub postOf : PostOf pl post
     pub size : length ring ≡ ringLength
 
@@ -73,6 +91,7 @@ module _ (pl : Plot) where
   ring-valid post ring e =
       let row = passed _ tt e in
       record {
+        sheet = (row 13, row 14);
         postOf = record { valid = valid (row 1) (row 2) (row 4); post = ltb-true post (posts pl) (not-false _ (row 5)) };
         size = equal _ _ (row 3);
       }
@@ -96,7 +115,7 @@ module _ (pl : Plot) where
       }
 
   -- and the other way: where all this is given, the call is accepted
-  module _ (v : Valid pl) where
+  module _ (v : Valid pl) (s : SheetPasses pl) where
     pub row1-passes : row1 pl.rows pl.columns .holds ≡ false
     row1-passes = ap not (sides-test (v .sides))
 
@@ -108,12 +127,21 @@ module _ (pl : Plot) where
 
     pub valid-survey : (marks : List ℕ) → length marks ≡ posts pl → surveyVerdict pl marks ≡ accepted
     unfolding surveyVerdict
-    valid-survey marks h = row-passed _ _ row1-passes ∙ row-passed _ _ row2-passes ∙ row-passed _ _ (same _ _ h) ∙ row-passed _ _ row4-passes ∙ none-left
+    valid-survey marks h =
+        row-passed _ _ (s .0)
+        ∙ row-passed _ _ (s .1)
+        ∙ row-passed _ _ row1-passes
+        ∙ row-passed _ _ row2-passes
+        ∙ row-passed _ _ (same _ _ h)
+        ∙ row-passed _ _ row4-passes
+        ∙ none-left
 
     pub valid-line : (d : Descent) (post run : ℕ) (list : List ℕ) → ForLine d post run list → lineVerdict pl d post run list ≡ accepted
     unfolding lineVerdict
     valid-line d post run list f =
-        row-passed _ _ row1-passes
+        row-passed _ _ (s .0)
+        ∙ row-passed _ _ (s .1)
+        ∙ row-passed _ _ row1-passes
         ∙ row-passed _ _ row2-passes
         ∙ row-passed _ _ row4-passes
         ∙ row-passed _ _ (ap not (lt-ltb post (posts pl) (f .postIn)))
@@ -125,7 +153,9 @@ module _ (pl : Plot) where
     pub valid-parts : (dales hills : List ℕ) → length dales ≡ posts pl → length hills ≡ posts pl → partsVerdict pl dales hills ≡ accepted
     unfolding partsVerdict
     valid-parts dales hills h k =
-        row-passed _ _ row1-passes
+        row-passed _ _ (s .0)
+        ∙ row-passed _ _ (s .1)
+        ∙ row-passed _ _ row1-passes
         ∙ row-passed _ _ row2-passes
         ∙ row-passed _ _ (rw (same _ _ h) (same _ _ k))
         ∙ row-passed _ _ row4-passes

@@ -19,19 +19,19 @@ use Rattle.surface.proofs.General.ListOf.{getD-listOf}
 use Rattle.surface.proofs.AnyOrder.Walks.{Falling, line-falls}
 use Rattle.surface.proofs.AnyOrder.Network.{end-name, up-post}
 use Rattle.surface.proofs.OfPlots.Instance.{network, down-falling, up-falling, pits-end, peaks-end, plot-balance, dales-part, hills-part}
-use Rattle.surface.proofs.OfCalls.Accepted.{survey-valid, line-valid, valid-line, valid-survey, valid-parts}
+use Rattle.surface.proofs.OfCalls.Accepted.{SheetPasses, survey-valid, line-valid, valid-line, valid-survey, valid-parts}
 use Rattle.surface.proofs.OfCalls.Series.{good-series}
 
-module _ (pl : Plot) (v : Valid pl) where
+module _ (pl : Plot) (v : Valid pl) (s : SheetPasses pl) where
   -- an accepted survey
   counts : (lent : List ℕ) → length lent ≡ posts pl
       → surveyAnswer pl lent ≡ record { code = 0; place = 0; peaks = peaks (marksOf pl); pits = pits (marksOf pl); saddles = saddles (marksOf pl) }
   unfolding surveyAnswer
-  counts lent h = rw (valid-survey pl v lent h)
+  counts lent h = rw (valid-survey pl v s lent h)
 
   fresh-marks : (lent : List ℕ) → length lent ≡ posts pl → surveyMarks pl lent ≡ marksOf pl
   unfolding surveyMarks
-  fresh-marks lent h = rw (valid-survey pl v lent h)
+  fresh-marks lent h = rw (valid-survey pl v s lent h)
 
   -- the lines of a descent: those of either direction, where the ends of walks from below a post are ends
   module _ (d : Descent) (law : Falling (posts pl) d) (isAnEnd : ℕ → Type 0)
@@ -63,7 +63,7 @@ module _ (pl : Plot) (v : Valid pl) where
                 let f = line-falls law post run h k in
                 let mark : getD marks post 0 ≡ markAt pl post = ap (λ (l : List ℕ). getD l post 0) e ∙ getD-listOf (markAt pl) (posts pl) post 0 h in
                 let room : length (line d (posts pl) post run) ≤ length list = rw (f .1) (omega (arith, f .2 .bound)) in
-                ap (λ (a : Answer). a .code) (valid-line pl v d post run list (record { postIn = h; saddle = rw mark at m; runIn = k; room = room }));
+                ap (λ (a : Answer). a .code) (valid-line pl v s d post run list (record { postIn = h; saddle = rw mark at m; runIn = k; room = room }));
           }
 
   thalwegs : (marks : List ℕ) → marks ≡ marksOf pl → Lines (posts pl) (down pl .lower) (IsPit pl) marks (runsOf (down pl)) (thalwegAnswer pl) (thalwegList pl)
@@ -80,7 +80,7 @@ module _ (pl : Plot) (v : Valid pl) where
   parts : (dales hills : List ℕ) → length dales ≡ posts pl → length hills ≡ posts pl
       → (partsAnswer pl dales hills .code ≡ 0) × (partsDales pl dales hills ≡ dalesOf pl) × (partsHills pl dales hills ≡ hillsOf pl)
   unfolding partsAnswer partsDales partsHills
-  parts dales hills h k = rw (valid-parts pl v dales hills h k) (refl, refl, refl)
+  parts dales hills h k = rw (valid-parts pl v s dales hills h k) (refl, refl, refl)
 
   parted : (dales hills : List ℕ) → length dales ≡ posts pl → length hills ≡ posts pl → Parted pl dales hills
   parted dales hills h k =
@@ -109,7 +109,7 @@ demand3 pl marks calls accepted kept =
     let a = survey-valid pl marks accepted in
     let g =
     good-series pl (surveyed pl marks) calls
-    (record { same = refl; valid = a .valid; marked = fresh-marks pl (a .valid) marks (a .marksSize) })
+    (record { same = refl; valid = a .valid; marked = fresh-marks pl (a .valid) (a .sheet) marks (a .marksSize) })
     kept
     in
-    record { heights = g .same; holds = holds _ (g .valid) _ (g .marked) }
+    record { heights = g .same; holds = holds _ (g .valid) (a .sheet) _ (g .marked) }

@@ -40,7 +40,7 @@ module _ (pl : Plot) (marks : List ℕ) where
   unfolding surveyAnswer
   survey-served e =
       let a = survey-valid pl marks e in
-      rw (survey-filled e, valid-survey pl (a .valid) marks (a .marksSize))
+      rw (survey-filled e, valid-survey pl (a .valid) (a .sheet) marks (a .marksSize))
 
   module _ (post : ℕ) (new : ℤ) where
     -- a refused re-shoot leaves both lists

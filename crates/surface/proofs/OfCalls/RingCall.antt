@@ -15,7 +15,7 @@ use Rattle.surface.specs.Grounds.{codesIn, Grounds, RingGrounds}
 use Rattle.surface.proofs.General.ListOf.{length-listOf, getD-listOf, listOf-padded, filter-padded}
 use Rattle.surface.proofs.OfPlots.Codes.{codes-say, codes-some, codes-number, codes-short, codes-runs, codes-mark, mark-runs}
 use Rattle.surface.proofs.OfCalls.Verdicts.{code, leads-passed, none-left}
-use Rattle.surface.proofs.OfCalls.Accepted.{ring-valid, valid-survey}
+use Rattle.surface.proofs.OfCalls.Accepted.{SheetPasses, ring-valid, valid-survey}
 use Rattle.surface.proofs.OfCalls.MarkCalls.{survey-filled}
 
 module _ (pl : Plot) (post : ℕ) (ring : List ℕ) where
@@ -30,7 +30,7 @@ module _ (pl : Plot) (post : ℕ) (ring : List ℕ) where
   pub ring-served : ringVerdict pl post ring .code ≡ 0
       → (ringAnswer pl post ring ≡ record { code = 0; place = 0; k = runsBelow pl post; mark = markAt pl post }) × (ringList pl post ring ≡ ringBytes pl post)
   unfolding ringVerdict ringAnswer ringList
-  ring-served e = rw (leads-passed (_ ∷ _ ∷ _ ∷ _ ∷ _ ∷ []) [] tt e, none-left) (refl, refl)
+  ring-served e = rw (leads-passed (_ ∷ _ ∷ _ ∷ _ ∷ _ ∷ _ ∷ _ ∷ []) [] tt e, none-left) (refl, refl)
 
   answered : ringAnswer pl post ring .code ≡ 0 → ringVerdict pl post ring .code ≡ 0
   unfolding ringAnswer
@@ -49,13 +49,13 @@ module _ (pl : Plot) (p : ℕ) where
   bytes-codes : codesIn (ringBytes pl p) ≡ codesOf pl p
   bytes-codes = rw bytes-are (filter-padded (λ c. ltb 0 c) (codesOf pl p) (ringLength - length (codesOf pl p)) 0 (codes-some pl p) refl)
 
-  module _ (post : PostOf pl p) where
+  module _ (post : PostOf pl p) (s : SheetPasses pl) where
     -- a survey writes the mark
     survey-mark : (marks : List ℕ) → length marks ≡ posts pl
         → (surveyAnswer pl marks .code ≡ 0) × (p < length (surveyMarks pl marks)) × (getD (surveyMarks pl marks) p 0 ≡ markAt pl p)
     unfolding surveyAnswer marksOf
     survey-mark marks n =
-        let e = code (valid-survey pl (post .valid) marks n) in
+        let e = code (valid-survey pl (post .valid) s marks n) in
         rw (survey-filled pl marks e) (e, rw (length-listOf) (post .post), getD-listOf (markAt pl) (posts pl) p 0 (post .post))
 
     grounds : Grounds pl p (runsBelow pl p) (markAt pl p) (ringBytes pl p)
@@ -77,4 +77,5 @@ pub ring-grounds : RingGrounds
 ring-grounds pl post lent e =
     let v = answered pl post lent e in
     let s = ring-served pl post lent v in
-    rw (s .0, s .1) (grounds pl post (ring-valid pl post lent v .postOf))
+    let a = ring-valid pl post lent v in
+    rw (s .0, s .1) (grounds pl post (a .postOf) (a .sheet))

@@ -8,10 +8,11 @@ use Rattle.surface.specs.Marks.{markFor, mark, markAt, marksOf, peaks, p
 use Rattle.surface.specs.Lines.{isEnd, next, walk, line}
 use Rattle.surface.specs.Rounding.{roundTiesToEven}
 use Rattle.surface.specs.SurveyFile.{wordAt, signed, unsigned, bytesOf, statedCount, tenthsOf, rounded, heightsIn, filedHeights, fileOf}
-use Rattle.surface.specs.Refusals.{verdict, readVerdict}
-use Rattle.surface.specs.Calls.{readAnswer, readHeights}
-use Rattle.surface.specs.Lister.{digits, decimal, fields, textLine, endName, headLine, lineText, saddleLines, postLines, plotText, listing, printed, StarListing}
+use Rattle.surface.specs.Settings.{entriesIn, entriesOf, extent, isBadSheet, areEntries, hasBadEntry, valueOf, ruleIn, nameIn}
+use Rattle.surface.specs.Refusals.{verdict, sheetVerdict, readVerdict}
+use Rattle.surface.specs.Calls.{sheetSays, readAnswer, readHeights}
+use Rattle.surface.specs.Lister.{digits, decimal, fields, textLine, endName, headLine, lineText, saddleLines, postLines, plotText, fileListing, listing, printed, StarListing}
 
 pub star-listing : StarListing
-unfolding listOf filter any all takeWhile lastOr count total firstNot virtualPit below lowest lowestOr throughLowest members places ring runs runsFrom markFor mark markAt marksOf ringOf peaks pits saddles isEnd next walk line wordAt signed unsigned bytesOf statedCount tenthsOf roundTiesToEven rounded heightsIn filedHeights fileOf verdict readVerdict readAnswer readHeights flatten digits decimal fields textLine endName headLine lineText saddleLines postLines plotText listing printed
+unfolding listOf filter any all takeWhile lastOr count total firstNot virtualPit below lowest lowestOr throughLowest members places ring runs runsFrom markFor mark markAt marksOf ringOf peaks pits saddles isEnd next walk line wordAt signed unsigned bytesOf statedCount tenthsOf roundTiesToEven rounded heightsIn filedHeights fileOf entriesIn entriesOf extent isBadSheet areEntries hasBadEntry valueOf ruleIn nameIn verdict sheetVerdict sheetSays readVerdict readAnswer readHeights flatten digits decimal fields textLine endName headLine lineText saddleLines postLines plotText fileListing listing printed
 star-listing = refl

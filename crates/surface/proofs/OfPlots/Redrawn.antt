@@ -10,13 +10,13 @@ use lib.ListN.{getD}
 use lib.Seq.{getD-set-other}
 use borrow.Author.Tests.{eqb-false}
 use Rattle.surface.specs.Lists.{listOf}
-use Rattle.surface.specs.Plot.{Plot, posts, over, reshot, height, virtualPit, below, Sides}
+use Rattle.surface.specs.Plot.{Plot, posts, over, reshot, height, virtualPit, below, directed, Sides}
 use Rattle.surface.specs.Edges.{ringOf}
 use Rattle.surface.specs.Marks.{markAt, marksOf, touches, redrawn}
 use Rattle.surface.proofs.General.Bools.{either}
 use Rattle.surface.proofs.General.ListOf.{length-listOf, getD-listOf, listOf-ext}
 use Rattle.surface.proofs.AnyOrder.Offsets.{touches-sym}
-use Rattle.surface.proofs.AnyOrder.Locality.{Touching, aPost, thePit, AgreeRound, diagonal-local, mark-local}
+use Rattle.surface.proofs.AnyOrder.Locality.{Touching, aPost, thePit, AgreeRound, directed-agree, diagonal-local, mark-local}
 
 -- the height order reads the heights of the two posts; the virtual pit has none
 below-agree : (pl pl′ : Plot) (u v : ℕ) → (eqb u virtualPit ≡ false → height pl u ≡ height pl′ u) → (eqb v virtualPit ≡ false → height pl v ≡ height pl′ v)
@@ -37,7 +37,9 @@ module _ (pl : Plot) (s : Sides pl.rows pl.columns) (z : ℕ) (hs′ : List ℤ)
 
   markAt-local : markAt pl p ≡ markAt (over pl hs′) p
   unfolding markAt ringOf
-  markAt-local = mark-local s (below pl) (below (over pl hs′)) _ _ p h below-local (diagonal-local s (below pl) (below (over pl hs′)) p below-local)
+  markAt-local =
+      mark-local s (below pl) (below (over pl hs′)) _ _ p h below-local
+      (diagonal-local s (directed pl.highest (below pl)) (directed pl.highest (below (over pl hs′))) p (directed-agree pl.highest below-local))
 
 -- a new height at z
 markAt-set : (pl : Plot) (s : Sides pl.rows pl.columns) (z : ℕ) (new : ℤ) (p : ℕ) → p < posts pl → touches pl.columns z p ≡ false
