@@ -1,4 +1,4 @@
--- Rows 1, 2, 4 and 5 of the table, case by case.
+-- Rows 13, 14, 1, 2, 4 and 5 of the table, case by case.
 use Prim.Native.Nat.{ℕ, _<_, _≤_}
 use native.Mathlib.Omega.{arith}
 use mathlib.Core.Path.{_≡_, sym, _∙_, ap}
@@ -9,7 +9,7 @@ use lib.IntN.{ℤ}
 use lib.ListN.{length}
 use Rattle.surface.specs.Lists.{all, firstNot}
 use Rattle.surface.specs.Plot.{Plot, posts, isSide, isHeight}
-use Rattle.surface.specs.Refusals.{Row, accepted, verdict, row1, row2, row4, row5}
+use Rattle.surface.specs.Refusals.{Row, accepted, verdict, row1, row2, row4, row5, leading, nextVerdict}
 use Rattle.surface.proofs.General.Bools.{either}
 use Rattle.surface.proofs.General.FirstNot.{all-firstNot, ranged-all}
 use Rattle.surface.proofs.OfCalls.Verdicts.{row-holds, row-passed, none-left, leads-refused, leads-passed}
@@ -32,27 +32,35 @@ range-passed hs h =
 pub range-refused : (hs : List ℤ) → all isHeight hs ≡ false → verdict (row4 isHeight hs ∷ []) ≡ record { code = 4; place = firstNot isHeight hs }
 range-refused hs h = row-holds _ _ (either _ (λ e. e) (λ e. absurd (true≢false (sym (ranged-all isHeight hs e) ∙ h))))
 
--- rows 1 and 2, then 4, then 5
-module _ (pl : Plot) (post : ℕ) where
-  abbrev sized : List Row
-  sized = row1 pl.rows pl.columns ∷ row2 pl ∷ []
+-- the sheet
+module _ (pl : Plot) where
+  pub sheet-refused : pl.badSheet ≡ true → verdict (leading pl) ≡ record { code = 13; place = 0 }
+  sheet-refused h = row-holds _ _ h
 
+  module _ (whole : pl.badSheet ≡ false) where
+    pub entry-refused : pl.badEntry ≡ true → verdict (leading pl) ≡ record { code = 14; place = 0 }
+    entry-refused h = row-passed _ _ whole ∙ row-holds _ _ h
+
+    pub sheet-passed : pl.badEntry ≡ false → verdict (leading pl) ≡ verdict (row1 pl.rows pl.columns ∷ row2 pl ∷ [])
+    sheet-passed h = row-passed _ _ whole ∙ row-passed _ _ h
+
+-- the rows that lead, then 4, then 5
+module _ (pl : Plot) (post : ℕ) where
   abbrev ranged : List Row
   ranged = row4 isHeight pl.heights ∷ []
 
-  abbrev whole : List Row
-  whole = row1 pl.rows pl.columns ∷ row2 pl ∷ row4 isHeight pl.heights ∷ row5 pl post ∷ []
-
-  module _ (z : verdict sized .code ≡ 0) where
-    pub post-range : (verdict ranged .code ≡ 0 → ⊥) → verdict whole ≡ verdict ranged
-    post-range n = leads-passed sized (row4 isHeight pl.heights ∷ row5 pl post ∷ []) tt z ∙ leads-refused ranged (row5 pl post ∷ []) tt n
+  module _ (z : verdict (leading pl) .code ≡ 0) where
+    pub post-range : (verdict ranged .code ≡ 0 → ⊥) → nextVerdict pl post ≡ verdict ranged
+    unfolding nextVerdict
+    post-range n = leads-passed (leading pl) (row4 isHeight pl.heights ∷ row5 pl post ∷ []) tt z ∙ leads-refused ranged (row5 pl post ∷ []) tt n
 
     module _ (y : verdict ranged .code ≡ 0) where
-      last : verdict whole ≡ verdict (row5 pl post ∷ [])
-      last = leads-passed sized (row4 isHeight pl.heights ∷ row5 pl post ∷ []) tt z ∙ leads-passed ranged (row5 pl post ∷ []) tt y
+      last : nextVerdict pl post ≡ verdict (row5 pl post ∷ [])
+      unfolding nextVerdict
+      last = leads-passed (leading pl) (row4 isHeight pl.heights ∷ row5 pl post ∷ []) tt z ∙ leads-passed ranged (row5 pl post ∷ []) tt y
 
-      pub post-refused : posts pl ≤ post → verdict whole ≡ record { code = 5; place = 0 }
+      pub post-refused : posts pl ≤ post → nextVerdict pl post ≡ record { code = 5; place = 0 }
       post-refused h = last ∙ row-holds _ _ (ap not (le-ltb post (posts pl) h))
 
-      pub post-passed : post < posts pl → verdict whole ≡ accepted
+      pub post-passed : post < posts pl → nextVerdict pl post ≡ accepted
       post-passed h = last ∙ row-passed _ _ (ap not (lt-ltb post (posts pl) h)) ∙ none-left

@@ -3,6 +3,7 @@ use surface::Answer;
 use surface::HIGHEST;
 use surface::LOWEST;
 use surface::MAX_SIDE;
+use surface::Sheet;
 ghost use mathlib.Core.Path.{_≡_};
 ghost use mathlib.Core.Bool.{_&&_};
 ghost use mathlib.Core.List.{[], _∷_};
@@ -10,7 +11,8 @@ ghost use Prim.Native.Nat.{_≤_};
 ghost use lib.ListN.{length};
 ghost use Rattle.surface.specs.Lists.{all, firstNot};
 ghost use Rattle.surface.specs.Plot.{plot, maxPosts, isSide, isHeight};
-ghost use Rattle.surface.specs.Refusals.{verdict, row1, row2, row4, row5};
+ghost use Rattle.surface.specs.Refusals.{verdict, row1, row2, row4, leading, nextVerdict};
+ghost use Rattle.surface.specs.Calls.{plotSaid};
 
 // Whether a plot may have these sides.
 pub fn is_plot(rows: u32, columns: u32) -> bool
@@ -53,7 +55,7 @@ fn all_in(heights: &[i32]) -> bool
     ok
 }
 
-// Rows 1 and 2 of the table, which lead every call over a plot.
+// Rows 1 and 2 of the table.
 pub fn plot_verdict(rows: u32, columns: u32, heights: &[i32]) -> Answer
     ensures { λ r. ⌜ r ≡ verdict (row1 rows columns ∷ row2 (plot rows columns (now (heights .entry))) ∷ []) ⌝ }
 {
@@ -64,6 +66,19 @@ pub fn plot_verdict(rows: u32, columns: u32, heights: &[i32]) -> Answer
         return Answer { code: 2, place: 0 };
     }
     Answer { code: 0, place: 0 }
+}
+
+// Rows 13, 14, 1 and 2, which lead every call with a settings sheet.
+pub fn lead_verdict(said: Sheet, rows: u32, columns: u32, heights: &[i32]) -> Answer
+    ensures { λ r. ⌜ r ≡ verdict (leading (plotSaid said rows columns (now (heights .entry)))) ⌝ }
+{
+    if said.code == 13 {
+        return Answer { code: 13, place: 0 };
+    }
+    if said.code == 14 {
+        return Answer { code: 14, place: 0 };
+    }
+    plot_verdict(rows, columns, heights)
 }
 
 // Row 4.
@@ -80,13 +95,13 @@ pub fn heights_verdict(heights: &[i32]) -> Answer
     }
 }
 
-// Rows 1, 2, 4 and 5, which the calls that start from a post look at.
-pub fn post_verdict(rows: u32, columns: u32, heights: &[i32], post: u32) -> Answer
-    ensures { λ r. ⌜ r ≡ verdict (row1 rows columns ∷ row2 (plot rows columns (now (heights .entry))) ∷ row4 isHeight (now (heights .entry)) ∷ row5 (plot rows columns (now (heights .entry))) post ∷ []) ⌝ }
+// Rows 13, 14, 1, 2, 4 and 5, which the calls that start from a post look at.
+pub fn post_verdict(said: Sheet, rows: u32, columns: u32, heights: &[i32], post: u32) -> Answer
+    ensures { λ r. ⌜ r ≡ nextVerdict (plotSaid said rows columns (now (heights .entry))) post ⌝ }
 {
-    let size = plot_verdict(rows, columns, heights);
-    if size.code != 0 {
-        return size;
+    let lead = lead_verdict(said, rows, columns, heights);
+    if lead.code != 0 {
+        return lead;
     }
     let range = heights_verdict(heights);
     if range.code != 0 {

@@ -1,0 +1,82 @@
+// Settings sheets (docs/SPECIFICATION.md, "Settings sheet"): what a sheet says, and the call that tells it.
+mod entries;
+mod frame;
+
+use entries::read_entries;
+use frame::byte_at;
+use frame::is_bad;
+use surface::DEFAULT_RULE;
+use surface::NAME_LENGTH;
+use surface::Sheet;
+ghost use mathlib.Core.Path.{_≡_};
+ghost use Prim.Native.Nat.{_+_, _≤_};
+ghost use lib.ListN.{length, getD};
+ghost use Rattle.surface.specs.Lists.{listOf};
+ghost use Rattle.surface.specs.Settings.{nameLength};
+ghost use Rattle.surface.specs.Calls.{sheetSays, settingsAnswer, settingsName};
+ghost use Rattle.settings.specs.Walk.{refusal};
+
+// A refusal: its number, and 0 for all else.
+fn refused(code: u32) -> Sheet
+    ensures { λ r. ⌜ r ≡ refusal code ⌝ }
+{
+    Sheet {
+        code,
+        place: 0,
+        rule: 0,
+        named: 0,
+    }
+}
+
+// What a settings sheet says; the empty list is no sheet. Most calls are lent none: this is small, and is inlined there.
+pub fn read_sheet(sheet: &[u8]) -> Sheet
+    ensures { λ r. ⌜ r ≡ sheetSays (now (sheet .entry)) ⌝ }
+{
+    if sheet.len() == 0 {
+        return Sheet {
+            code: 0,
+            place: 0,
+            rule: DEFAULT_RULE,
+            named: 0,
+        };
+    }
+    read_bytes(sheet)
+}
+
+// The same by the bytes alone: rows 13 and 14 of the table, in that order. (`settings` calls this too: with one caller it would be inlined above.)
+fn read_bytes(sheet: &[u8]) -> Sheet
+    ensures { λ r. ⌜ r ≡ sheetSays (now (sheet .entry)) ⌝ }
+{
+    if is_bad(sheet) {
+        return refused(13);
+    }
+    read_entries(sheet)
+}
+
+// Writes the bytes of a sheet from `at` on, and zeros after them.
+fn put_name(sheet: &[u8], at: usize, name: &mut [u8])
+    requires { ⌜ (at ≤ length (now sheet)) × (length (now name) ≡ nameLength) ⌝ }
+    ensures { λ _. ⌜ now (name .exit) ≡ listOf (λ i. getD (now (sheet .entry)) (at + i) 0) nameLength ⌝ }
+{
+    let mut i = 0;
+    while i < NAME_LENGTH {
+        name[i] = byte_at(sheet, at + i);
+        i += 1;
+    }
+}
+
+// The call: gives the rule and the name's length, and writes the name, with which a sheet ends. Refused: the list stays as it was.
+pub fn settings(sheet: &[u8], name: &mut [u8]) -> Sheet
+    ensures { λ r. ⌜ r ≡ settingsAnswer (now (sheet .entry)) (now (name .entry)) ⌝ }
+    ensures { λ _. ⌜ now (name .exit) ≡ settingsName (now (sheet .entry)) (now (name .entry)) ⌝ }
+{
+    let said = read_bytes(sheet);
+    if said.code != 0 {
+        return said;
+    }
+    if name.len() != NAME_LENGTH {
+        return refused(3);
+    }
+    put_name(sheet, sheet.len() - said.named as usize, name);
+    said
+}
