@@ -3,20 +3,23 @@ use Prim.Native.Nat.{ℕ, zero, suc, _%_, _+_, _-_, _*_, _≤_, _<_}
 use native.Mathlib.Omega.{arith}
 use native.Mathlib.Nat.{mul-le-mul-right, add-mul, one-mul}
 use mathlib.Core.Path.{_≡_, refl, sym, _∙_, ap}
-use mathlib.Core.Bool.{Bool, true, false, not, _||_}
+use mathlib.Core.Bool.{Bool, true, false, not, _||_, true≢false}
 use mathlib.Core.List.{List}
 use native.Mathlib.Decide.{ℕ-discrete}
+use borrow.Author.Tests.{ltb-true, ltb-false}
+use lib.Dec.{ltb}
 use lib.ListN.{length, getD, replicate}
 use Rattle.surface.specs.Lists.{stores}
 use Rattle.surface.specs.Plot.{Plot, posts, below, Sides, Valid}
 use Rattle.surface.specs.Edges.{top, bottom, left, right}
 use Rattle.surface.specs.Marks.{markAt}
+use Rattle.surface.proofs.General.Bools.{either}
 use Rattle.surface.proofs.General.Stores.{stores-in, stores-out}
 use Rattle.surface.proofs.AnyOrder.Grid.{row-lt, row-is, column-is, top-false, top-true, bottom-false, bottom-true, left-true, left-false, right-true, right-false}
 use Rattle.surface.proofs.OfPlots.HeightOrder.{below-strict}
 use Rattle.post.specs.Flags.{markFrom, Compared}
 use Rattle.post.proofs.Compared.{mark-compared}
-use Rattle.marks.specs.Rows.{roundOf, RowOf, South, North, Side}
+use Rattle.marks.specs.Rows.{roundOf, RowOf, Ends, South, North, Side}
 
 -- the same stores
 stores-same : {A : Type 0} (f g : ℕ → A) (from n : ℕ) (l : List A) → ((i : ℕ) → i < n → f (from + i) ≡ g (from + i)) → stores f from n l ≡ stores g from n l
@@ -41,6 +44,7 @@ pub record Head (pl : Plot) (marks₀ marks : List ℕ) (north nfall nrise side 
   pub above : North pl (r * pl.columns) north nfall nrise
   pub west : getD side 0 false ≡ false
   pub east : getD side pl.columns false ≡ true
+  pub ends : Ends pl.columns sfall srise
   pub done : marks ≡ stores (markAt pl) 0 (r * pl.columns) marks₀
 
 pub all-false : (n c : ℕ) → getD (replicate n false) c false ≡ false
@@ -49,13 +53,36 @@ all-false (suc n) zero = refl
 all-false (suc n) (suc c) = all-false n c
 
 -- above the top row is the virtual pit
-pub north-start : {pl : Plot} → Valid pl → (north nfall nrise : List Bool) → ((c : ℕ) → getD north c false ≡ false) → North pl 0 north nfall nrise
-north-start {pl} valid north nfall nrise h =
+pub north-start : {pl : Plot} → Valid pl → (flags : List Bool) → ((c : ℕ) → getD flags c false ≡ false) → North pl 0 flags flags flags
+north-start {pl} valid flags h =
     record {
       up = λ c k _. rw (h c, top-true (valid .sides) (0 + c) .1 (omega arith));
       fall = λ i. absurd (omega (arith, valid .sides));
       rise = λ i. absurd (omega (arith, valid .sides));
+      over = λ _ c _. (h (c + 1), h (c + 1));
+      west = h 0;
+      east = h pl.columns;
     }
+
+-- what stores within the rows leave of their ends
+pub ends-kept : {columns : ℕ} (f g : ℕ → Bool) (fall₀ rise₀ fall rise : List Bool) → 2 ≤ columns → Ends columns fall₀ rise₀
+    → fall ≡ stores f 1 (columns - 1) fall₀
+    → rise ≡ stores g 1 (columns - 1) rise₀
+    → Ends columns fall rise
+ends-kept {columns} f g fall₀ rise₀ fall rise wide e i j =
+    rw (i, j)
+    (record {
+      fallFirst = stores-out f 1 (columns - 1) fall₀ 0 false (λ x y. omega arith) ∙ e .fallFirst;
+      fallLast = stores-out f 1 (columns - 1) fall₀ columns false (λ x y. omega arith) ∙ e .fallLast;
+      riseFirst = stores-out g 1 (columns - 1) rise₀ 0 false (λ x y. omega arith) ∙ e .riseFirst;
+      riseLast = stores-out g 1 (columns - 1) rise₀ columns false (λ x y. omega arith) ∙ e .riseLast;
+    })
+
+-- a corner: beyond a border, or told by a comparison
+corner-flag : (a b : Bool) {x y : Bool} → (a ≡ true → x ≡ true) → (b ≡ true → x ≡ true) → (a ≡ false → b ≡ false → x ≡ y) → x ≡ a || (b || y)
+corner-flag true b f g h = f refl
+corner-flag false true f g h = g refl
+corner-flag false false f g h = h refl refl
 
 pub row-of : (rows columns r : ℕ) → r < rows → RowOf rows columns (r * columns)
 row-of rows columns r h =
@@ -86,9 +113,12 @@ module _ {pl : Plot} (valid : Valid pl) {base : ℕ} (at : RowOf pl.rows pl.colu
       → south ≡ stores (λ k. below pl (base + pl.columns + (k - 0)) (base + (k - 0))) 0 pl.columns south₀
       → sfall ≡ stores (λ k. below pl (base + pl.columns + 1 + (k - 1)) (base + (k - 1))) 1 (pl.columns - 1) sfall₀
       → srise ≡ stores (λ k. below pl (base + pl.columns + (k - 1)) (base + 1 + (k - 1))) 1 (pl.columns - 1) srise₀
+      → Ends pl.columns sfall₀ srise₀
       → South pl base south sfall srise
-  south-told south₀ sfall₀ srise₀ south sfall srise h a b d e f g =
+  south-told south₀ sfall₀ srise₀ south sfall srise h a b d e f g ends =
       record {
+        under = λ i. absurd (omega arith);
+        ends = ends-kept _ _ sfall₀ srise₀ sfall srise (valid .sides .wide) ends f g;
         down =
             λ c k.
             rw (bottom-off h c k, e)
@@ -106,11 +136,21 @@ module _ {pl : Plot} (valid : Valid pl) {base : ℕ} (at : RowOf pl.rows pl.colu
       same : {p q x y : ℕ} → p ≡ q → x ≡ y → below pl p x ≡ below pl q y
       same e i = rw (e, i)
 
-  pub south-pit : (south₀ south sfall srise : List Bool) → posts pl ≤ base + pl.columns → pl.columns ≤ length south₀
+  pub south-pit : (south₀ sfall₀ srise₀ south sfall srise : List Bool) → posts pl ≤ base + pl.columns
+      → pl.columns ≤ length south₀ → pl.columns ≤ length sfall₀ → pl.columns ≤ length srise₀
       → south ≡ stores (λ _. true) 0 pl.columns south₀
+      → sfall ≡ stores (λ _. true) 1 (pl.columns - 1) sfall₀
+      → srise ≡ stores (λ _. true) 1 (pl.columns - 1) srise₀
+      → Ends pl.columns sfall₀ srise₀
       → South pl base south sfall srise
-  south-pit south₀ south sfall srise h a e =
+  south-pit south₀ sfall₀ srise₀ south sfall srise h a b d e f g ends =
       record {
+        under =
+            λ _ c k. (
+              rw f (stores-in _ 1 (pl.columns - 1) sfall₀ (c + 1) false (omega arith) (omega arith) (omega arith)),
+              rw g (stores-in _ 1 (pl.columns - 1) srise₀ (c + 1) false (omega arith) (omega arith) (omega arith)),
+            );
+        ends = ends-kept _ _ sfall₀ srise₀ sfall srise (valid .sides .wide) ends f g;
         down = λ c k. rw (bottom-on h c k, e) (stores-in _ 0 pl.columns south₀ c false (omega arith) (omega arith) (omega arith));
         fall = λ i. absurd (omega arith);
         rise = λ i. absurd (omega arith);
@@ -135,6 +175,9 @@ module _ {pl : Plot} (valid : Valid pl) {base : ℕ} (at : RowOf pl.rows pl.colu
             λ _ h c k.
             let x : base + pl.columns + (c + 1) - pl.columns ≡ base + (c + 1) = omega arith in
             rw (x, t .rise h c k) (turned (base + (c + 1)) (base + pl.columns + c) (omega arith));
+        over = λ i. absurd (omega arith);
+        west = t .ends .fallFirst;
+        east = t .ends .riseLast;
       }
 
   module _ {north nfall nrise side south sfall srise : List Bool} (n : North pl base north nfall nrise) (e : Side pl base side) (t : South pl base south sfall srise) (c : ℕ) (in-row : c < pl.columns) where
@@ -192,6 +235,37 @@ module _ {pl : Plot} (valid : Valid pl) {base : ℕ} (at : RowOf pl.rows pl.colu
     same : (q x y z : ℕ) → q ≡ x → y ≡ z → below pl q y ≡ below pl x z
     same q x y z i j = rw (i, j)
 
+    -- a flag to the east by its column, and one to the west
+    eastward : (flags : List Bool) (x : Bool) → getD flags pl.columns false ≡ x → (c + 1 < pl.columns → getD flags (c + 1) false ≡ x) → getD flags (c + 1) false ≡ x
+    eastward flags x last inner = go (ℕ-discrete (c + 1) pl.columns)
+      where
+        go : Dec (c + 1 ≡ pl.columns) → getD flags (c + 1) false ≡ x
+        go (yes i) = rw i last
+        go (no i) = inner (omega (arith, i))
+
+    westward : (flags : List Bool) (x : Bool) → getD flags 0 false ≡ x → ((k : ℕ) → k + 1 < pl.columns → getD flags (k + 1) false ≡ x) → getD flags c false ≡ x
+    westward flags x first inner = go (ℕ-discrete c 0)
+      where
+        go : Dec (c ≡ 0) → getD flags c false ≡ x
+        go (yes i) = rw i first
+        go (no i) = let d : c ≡ c - 1 + 1 = omega (arith, i) in ap (λ (k : ℕ). getD flags k false) d ∙ inner (c - 1) (omega (arith, i))
+
+    -- on the borders
+    at-top : top pl.columns p ≡ true → base < pl.columns
+    at-top h = omega (arith, top-true s p .0 h)
+
+    at-bottom : bottom pl.rows pl.columns p ≡ true → posts pl ≤ base + pl.columns
+    at-bottom h =
+        either (ltb (base + pl.columns) (posts pl))
+        (λ e. absurd (true≢false (sym h ∙ bottom-off (ltb-true (base + pl.columns) (posts pl) e) c in-row)))
+        (λ e. ltb-false (base + pl.columns) (posts pl) e)
+
+    at-left : left pl.columns p ≡ true → c ≡ 0
+    at-left h = sym column-at ∙ left-true s p .0 h
+
+    at-right : right pl.columns p ≡ true → c + 1 ≡ pl.columns
+    at-right h = omega (arith, right-true s p .0 h, column-at)
+
     pub round-at : Compared pl p (roundOf north nfall nrise side south sfall srise c)
     round-at =
         record {
@@ -199,19 +273,29 @@ module _ {pl : Plot} (valid : Valid pl) {base : ℕ} (at : RowOf pl.rows pl.colu
           e = east;
           s = t .down c in-row ∙ ap (λ (x : Bool). bottom pl.rows pl.columns p || x) (same _ _ _ _ (omega arith) refl);
           w = west;
-          ne = λ i j. let b = north-at i in n .rise b (omega (arith, post)) c (right-at j) ∙ same _ _ _ _ (omega arith) refl;
-          se = λ i j. t .fall (south-at j) c (right-at i) ∙ same _ _ _ _ (omega arith) refl;
+          ne =
+              corner-flag _ _ (λ i. ap not (eastward nrise false (n .east) (λ k. n .over (at-top i) c k .1)))
+              (λ i. ap not (ap (λ (k : ℕ). getD nrise k false) (at-right i) ∙ n .east))
+              (λ i j. let b = north-at i in n .rise b (omega (arith, post)) c (right-at j) ∙ same _ _ _ _ (omega arith) refl);
+          se =
+              corner-flag _ _ (λ i. ap (λ (k : ℕ). getD sfall k false) (at-right i) ∙ t .ends .fallLast)
+              (λ i. eastward sfall true (t .ends .fallLast) (λ k. t .under (at-bottom i) c k .0))
+              (λ i j. t .fall (south-at j) c (right-at i) ∙ same _ _ _ _ (omega arith) refl);
           sw =
-              λ i j.
+              corner-flag _ _ (λ i. westward srise true (t .ends .riseFirst) (λ k h. t .under (at-bottom i) k h .1))
+              (λ i. ap (λ (k : ℕ). getD srise k false) (at-left i) ∙ t .ends .riseFirst)
+              (λ i j.
               let f = left-at j in
               let d : c ≡ c - 1 + 1 = omega arith in
-              ap (λ (k : ℕ). getD srise k false) d ∙ t .rise (south-at i) (c - 1) (omega arith) ∙ same _ _ _ _ (omega arith) (omega arith);
+              ap (λ (k : ℕ). getD srise k false) d ∙ t .rise (south-at i) (c - 1) (omega arith) ∙ same _ _ _ _ (omega arith) (omega arith));
           nw =
-              λ i j.
+              corner-flag _ _ (λ i. ap not (ap (λ (k : ℕ). getD nfall k false) (at-left i) ∙ n .west))
+              (λ i. ap not (westward nfall false (n .west) (λ k h. n .over (at-top i) k h .0)))
+              (λ i j.
               let f = left-at i in
               let b = north-at j in
               let d : c ≡ c - 1 + 1 = omega arith in
-              ap (λ (k : ℕ). not (getD nfall k false)) d ∙ n .fall b (omega (arith, post)) (c - 1) (omega arith) ∙ same _ _ _ _ (omega arith) (omega arith);
+              ap (λ (k : ℕ). not (getD nfall k false)) d ∙ n .fall b (omega (arith, post)) (c - 1) (omega arith) ∙ same _ _ _ _ (omega arith) (omega arith));
         }
 
   pub side-told : (side₀ side : List Bool) → pl.columns ≤ length side₀ → getD side₀ 0 false ≡ false → getD side₀ pl.columns false ≡ true
@@ -233,7 +317,7 @@ module _ {pl : Plot} (valid : Valid pl) {base : ℕ} (at : RowOf pl.rows pl.colu
   -- the marks of a row, by way of a list that is longer than it
   pub row-marked : {north nfall nrise side south sfall srise : List Bool} → North pl base north nfall nrise → Side pl base side → South pl base south sfall srise
       → (width : ℕ) (out₀ out marks₀ marks : List ℕ) → pl.columns ≤ width → width ≤ length out₀
-      → out ≡ stores (λ c. markFrom (roundOf north nfall nrise side south sfall srise c)) 0 width out₀
+      → out ≡ stores (λ c. markFrom pl.highest (roundOf north nfall nrise side south sfall srise c)) 0 width out₀
       → marks ≡ stores (λ k. getD out (k - base) 0) base pl.columns marks₀
       → marks ≡ stores (markAt pl) base pl.columns marks₀
   row-marked n e t width out₀ out marks₀ marks w v i j =

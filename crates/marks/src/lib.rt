@@ -12,21 +12,21 @@ ghost use Rattle.surface.specs.Lists.{stores};
 ghost use Rattle.surface.specs.Plot.{plotOf, posts, Valid};
 ghost use Rattle.surface.specs.Marks.{marksOf};
 ghost use Rattle.post.specs.Flags.{markFrom};
-ghost use Rattle.marks.specs.Rows.{roundOf, RowOf, South, SouthLong, Wide};
+ghost use Rattle.marks.specs.Rows.{roundOf, RowOf, Ends, South, SouthLong, Wide};
 
 // A row is worked on in whole blocks of 16 posts, the last one filled up, so that no post is left over from the vector code; two flags more than that.
 const WIDTH: usize = 128;
 
 const FLAGS: usize = 130;
 
-// Sets the first n flags.
-fn fill_row(flags: &mut [bool], n: usize)
-    requires { ⌜ n ≤ length (now flags) ⌝ }
-    ensures { λ _. ⌜ now (flags .exit) ≡ stores (λ _. true) 0 n (now (flags .entry)) ⌝ }
+// Sets n flags from `at` on.
+fn fill_row(flags: &mut [bool], at: usize, n: usize)
+    requires { ⌜ at + n ≤ length (now flags) ⌝ }
+    ensures { λ _. ⌜ now (flags .exit) ≡ stores (λ _. true) at n (now (flags .entry)) ⌝ }
 {
     let mut c = 0;
     while c < n {
-        flags[c] = true;
+        flags[at + c] = true;
         c += 1;
     }
 }
@@ -52,7 +52,7 @@ fn south_rows(
     sfall: &mut [bool],
     srise: &mut [bool],
 )
-    requires { ⌜ Valid (plotOf grid (now heights)) × RowOf (grid .rows) (grid .columns) base × SouthLong (grid .columns) (now south) (now sfall) (now srise) ⌝ }
+    requires { ⌜ Valid (plotOf grid (now heights)) × RowOf (grid .rows) (grid .columns) base × SouthLong (grid .columns) (now south) (now sfall) (now srise) × Ends (grid .columns) (now sfall) (now srise) ⌝ }
     ensures { λ _. ⌜ South (plotOf grid (now (heights .entry))) base (now (south .exit)) (now (sfall .exit)) (now (srise .exit)) ⌝ }
 {
     let columns = grid.columns;
@@ -63,7 +63,9 @@ fn south_rows(
         later_row(heights, grid, base + 1, next, srise, 1, columns - 1);
         return;
     }
-    fill_row(south, columns);
+    fill_row(south, 0, columns);
+    fill_row(sfall, 1, columns - 1);
+    fill_row(srise, 1, columns - 1);
 }
 
 // The marks of the first posts of a row by the flags round it.
@@ -75,11 +77,12 @@ fn mark_row(
     south: &[bool],
     sfall: &[bool],
     srise: &[bool],
+    highest: bool,
     out: &mut [u8],
     width: usize,
 )
     requires { ⌜ Wide width (now north) (now nfall) (now nrise) (now side) (now south) (now sfall) (now srise) × (width ≤ length (now out)) ⌝ }
-    ensures { λ _. ⌜ now (out .exit) ≡ stores (λ c. markFrom (roundOf (now (north .entry)) (now (nfall .entry)) (now (nrise .entry)) (now (side .entry)) (now (south .entry)) (now (sfall .entry)) (now (srise .entry)) c)) 0 width (now (out .entry)) ⌝ }
+    ensures { λ _. ⌜ now (out .exit) ≡ stores (λ c. markFrom highest (roundOf (now (north .entry)) (now (nfall .entry)) (now (nrise .entry)) (now (side .entry)) (now (south .entry)) (now (sfall .entry)) (now (srise .entry)) c)) 0 width (now (out .entry)) ⌝ }
 {
     let mut c = 0;
     while c < width {
@@ -91,7 +94,7 @@ fn mark_row(
         let sw = srise[c];
         let w = !side[c];
         let nw = !nfall[c];
-        out[c] = mark_of(Below {
+        let round = Below {
             n,
             ne,
             e,
@@ -100,9 +103,55 @@ fn mark_row(
             sw,
             w,
             nw,
-        });
+        };
+        out[c] = mark_of(round, highest);
         c += 1;
     }
+}
+
+// The same, by a call for each rule, so that the compiler makes a loop for each.
+fn mark_ruled(
+    north: &[bool],
+    nfall: &[bool],
+    nrise: &[bool],
+    side: &[bool],
+    south: &[bool],
+    sfall: &[bool],
+    srise: &[bool],
+    highest: bool,
+    out: &mut [u8],
+    width: usize,
+)
+    requires { ⌜ Wide width (now north) (now nfall) (now nrise) (now side) (now south) (now sfall) (now srise) × (width ≤ length (now out)) ⌝ }
+    ensures { λ _. ⌜ now (out .exit) ≡ stores (λ c. markFrom highest (roundOf (now (north .entry)) (now (nfall .entry)) (now (nrise .entry)) (now (side .entry)) (now (south .entry)) (now (sfall .entry)) (now (srise .entry)) c)) 0 width (now (out .entry)) ⌝ }
+{
+    if highest {
+        mark_row(
+            north,
+            nfall,
+            nrise,
+            side,
+            south,
+            sfall,
+            srise,
+            true,
+            out,
+            width,
+        );
+        return;
+    }
+    mark_row(
+        north,
+        nfall,
+        nrise,
+        side,
+        south,
+        sfall,
+        srise,
+        false,
+        out,
+        width,
+    );
 }
 
 // The marks of a whole plot.
@@ -121,13 +170,15 @@ pub fn mark_plot(heights: &[i32], grid: Grid, marks: &mut [u8])
     let mut srise = [false; FLAGS];
     let mut out = [0u8; WIDTH];
     side[columns] = true;
+    sfall[columns] = true;
+    srise[0] = true;
     let width = (columns + 15) / 16 * 16;
     let mut r = 0;
     while r < rows {
         let base = r * columns;
         east_row(heights, grid, base, &mut side);
         south_rows(heights, grid, base, &mut south, &mut sfall, &mut srise);
-        mark_row(
+        mark_ruled(
             &north,
             &nfall,
             &nrise,
@@ -135,6 +186,7 @@ pub fn mark_plot(heights: &[i32], grid: Grid, marks: &mut [u8])
             &south,
             &sfall,
             &srise,
+            grid.highest,
             &mut out,
             width,
         );

@@ -1,16 +1,18 @@
--- Round a post the diagonals need not be known. Downward every corner may be scanned: where a diagonal does not join p to the post across a cell, the
--- cell's lowest post stands beside p and is lower than the one across. Upward a corner above p is joined to it exactly where p is the cell's lowest
--- post, so where both sides of the cell are above p too. Over any strict total order.
+-- Round a post the diagonals need not be known. Where these go through the lowest posts of cells in an order, downward in that order every corner may be
+-- scanned: where a diagonal does not join p to the post across a cell, the cell's lowest post stands beside p and is lower than the one across. Upward a
+-- corner above p is joined to it exactly where p is the cell's lowest post, so where both sides of the cell are above p too. Over any strict total order;
+-- in the reversed one the diagonals go through the highest posts, and down and up change places.
 use Prim.Native.Nat.{ℕ, _+_, _-_, _≤_}
 use mathlib.Core.Path.{_≡_, refl, sym, ap, subst, _∙_}
 use mathlib.Core.Logic.{_⊎_, ⊎-elim, inl, inr}
 use mathlib.Core.Bool.{Bool, true, false, cond, not, _&&_, true≢false, or-true, and-false}
 use mathlib.Core.List.{List, [], _∷_, _++_, List·Memᴰ, List·Memᴰ·head, List·Memᴰ·tail, List·Memᴰ·cases-cons, List·Memᴰ·not-nil}
 use native.Mathlib.Omega.{arith}
-use borrow.Author.Tests.{eq-eqb, ne-eqb}
-use Rattle.surface.specs.Plot.{Plot, below, reversed, PostOf}
+use borrow.Author.Tests.{eq-eqb, ne-eqb, not-false}
+use Rattle.surface.specs.Plot.{Plot, below, reversed, directed, PostOf}
 use Rattle.surface.specs.Edges.{lowerOf, throughLowest, lowest, Place, place, top, bottom, left, right, isBorder, fallsIn}
-use Rattle.surface.specs.Lines.{next, down, up}
+use Rattle.surface.specs.Lines.{next, toward}
+use Rattle.surface.specs.Flags.{flipped}
 use Rattle.surface.proofs.General.Bools.{either, or-left, or-right}
 use Rattle.surface.proofs.AnyOrder.Grid.{top-false, bottom-false, not-left}
 use Rattle.surface.proofs.AnyOrder.Locality.{read-agree}
@@ -21,7 +23,7 @@ use Rattle.post.specs.Corners.{bordersOf, Neighbours}
 use Rattle.post.specs.declared.border.Borders.{Borders}
 use Rattle.post.specs.declared.corner.Corners.{Corners}
 use Rattle.post.proofs.Around.{both, south-east, north-west, neighbours}
-use Rattle.next.specs.Scan.{inside, cells, step, scan, turn, everyCorner, cornersAbove}
+use Rattle.next.specs.Scan.{inside, cells, step, scan, turn, cornersLower}
 use Rattle.next.proofs.Scanned.{to-front, up-is, down-is}
 
 module _ (lower : ℕ → ℕ → Bool) (o : StrictTotal lower) where
@@ -193,69 +195,15 @@ module _ (lower : ℕ → ℕ → Bool) (o : StrictTotal lower) where
         })
         _ told-se told-sw told-ne
 
-  module _ (columns p : ℕ) (wide : 2 ≤ columns) (far : columns + 1 ≤ p) where
-    abbrev falls : ℕ → Bool
-    falls = throughLowest lower columns
+  -- the same for a corner whose cell is there off two borders
+  free-off : (a b : Bool) (x q : ℕ) (u : Bool) (k m : List Place)
+      → (a ≡ false → b ≡ false → u ≡ false → scan lower (lowerOf lower x q) (k ++ m) ≡ scan lower x (k ++ m))
+      → scan lower x (k ++ place (not a && (not b && u)) q ∷ m) ≡ scan lower x (k ++ place (not a && not b) q ∷ m)
+  free-off true b x q u k m h = refl
+  free-off false true x q u k m h = refl
+  free-off false false x q u k m h = free x q u k m (h refl refl)
 
-    abbrev round : Bool → Bool → Bool → Bool → List Place
-    round ne se sw nw = turn columns p inside (record { ne = ne; se = se; sw = sw; nw = nw })
-
-    -- a post under another name
-    named : (x y q : ℕ) → x ≡ y → lower x q ≡ true → lower y q ≡ true
-    named x y q e h = ap (λ (z : ℕ). lower z q) (sym e) ∙ h
-
-    untrue : (b : Bool) → not b ≡ false → b ≡ true
-    untrue true h = refl
-    untrue false h = absurd (true≢false h)
-
-    ne-free : (se sw nw : Bool) → scan lower p (round (not (falls (p - columns))) se sw nw) ≡ scan lower p (round true se sw nw)
-    ne-free se sw nw =
-        let q = p - (columns - 1) in
-        free p q _ (place true (p - columns) ∷ []) _
-        (λ t.
-        falling columns (p - columns) wide q (untrue _ t) (List·Memᴰ·tail (List·Memᴰ·head (omega arith))) (λ e. omega arith) (λ e. omega arith)
-        (λ h. unseen p (p - columns) q [] _ h)
-        (λ h. unseen p (p + 1) q (place true (p - columns) ∷ []) _ (named _ (p + 1) q (omega arith) h)))
-
-    se-free : (ne sw nw : Bool) → scan lower p (round ne (falls p) sw nw) ≡ scan lower p (round ne true sw nw)
-    se-free ne sw nw =
-        let q = p + (columns + 1) in
-        let east = place true (p - columns) ∷ place ne (p - (columns - 1)) ∷ place true (p + 1) ∷ [] in
-        free p q _ east _
-        (λ t.
-        rising columns p wide q t (List·Memᴰ·tail (List·Memᴰ·tail (List·Memᴰ·tail (List·Memᴰ·head (omega arith))))) (λ e. omega arith) (λ e. omega arith)
-        (λ h. unseen p (p + 1) q (place true (p - columns) ∷ place ne (p - (columns - 1)) ∷ []) _ h)
-        (λ h. unseen p (p + columns) q east _ h))
-
-    sw-free : (ne se nw : Bool) → scan lower p (round ne se (not (falls (p - 1))) nw) ≡ scan lower p (round ne se true nw)
-    sw-free ne se nw =
-        let q = p + (columns - 1) in
-        let east = place true (p - columns) ∷ place ne (p - (columns - 1)) ∷ place true (p + 1) ∷ place se (p + (columns + 1)) ∷ [] in
-        let south = place true (p - columns) ∷ place ne (p - (columns - 1)) ∷ place true (p + 1) ∷ place se (p + (columns + 1)) ∷ place true (p + columns) ∷ [] in
-        free p q _ south _
-        (λ t.
-        falling columns (p - 1) wide q (untrue _ t) (List·Memᴰ·tail (List·Memᴰ·tail (List·Memᴰ·head (omega arith)))) (λ e. omega arith) (λ e. omega arith)
-        (λ h. unseen p (p - 1) q south _ h)
-        (λ h. unseen p (p + columns) q east _ (named _ (p + columns) q (omega arith) h)))
-
-    nw-free : (ne se sw : Bool) → scan lower p (round ne se sw (falls (p - columns - 1))) ≡ scan lower p (round ne se sw true)
-    nw-free ne se sw =
-        let q = p - (columns + 1) in
-        let south = place true (p - columns) ∷ place ne (p - (columns - 1)) ∷ place true (p + 1) ∷ place se (p + (columns + 1)) ∷ place true (p + columns) ∷ place sw (p + (columns - 1)) ∷ [] in
-        free p q _ (place true (p - columns) ∷ place ne (p - (columns - 1)) ∷ place true (p + 1) ∷ place se (p + (columns + 1)) ∷ place true (p + columns) ∷ place sw (p + (columns - 1)) ∷ place true (p - 1) ∷ []) _
-        (λ t.
-        rising columns (p - columns - 1) wide q t (List·Memᴰ·head (omega arith)) (λ e. omega arith) (λ e. omega arith)
-        (λ h. unseen p (p - columns) q [] _ (named _ (p - columns) q (omega arith) h))
-        (λ h. unseen p (p - 1) q south _ (named _ (p - 1) q (omega arith) h)))
-
-    -- p's corners by the diagonals round it
-    abbrev joinedCorners : Corners
-    joinedCorners = record { ne = not (falls (p - columns)); se = falls p; sw = not (falls (p - 1)); nw = falls (p - columns - 1) }
-
-    pub every-corner : scan lower p (turn columns p inside joinedCorners) ≡ scan lower p (turn columns p inside everyCorner)
-    every-corner = ne-free _ _ _ ∙ se-free _ _ _ ∙ sw-free _ _ _ ∙ nw-free _ _ _
-
-  -- upward, round any post
+  -- upward
   module _ (columns p : ℕ) (wide : 2 ≤ columns) where
     -- a place's flag matters only where its post is above p
     abbrev higher : ℕ → ℕ → Bool
@@ -301,6 +249,7 @@ module _ (lower : ℕ → ℕ → Bool) (o : StrictTotal lower) where
         let w : p - columns - 1 + columns ≡ p - 1 = omega arith in
         rw (e, n, w) at (from-se columns (p - columns - 1) wide (rw (e, q) h))
 
+    -- round a post at these borders
     module _ (at : Borders) (north : at .top ≡ false → columns ≤ p) (west : at .left ≡ false → 1 ≤ p) (northWest : at .left ≡ false → at .top ≡ false → columns + 1 ≤ p) where
       abbrev n : Place
       n = place (not (at .top)) (p - columns)
@@ -314,17 +263,63 @@ module _ (lower : ℕ → ℕ → Bool) (o : StrictTotal lower) where
       abbrev w : Place
       w = place (not (at .left)) (p - 1)
 
-      pub corners-above : (falls : ℕ → Bool) → falls ≡ throughLowest lower columns
-          → scan higher p (turn columns p at (record { ne = not (at .top) && (not (at .right) && not (falls (p - columns))); se = not (at .right) && (not (at .bottom) && falls p); sw = not (at .bottom) && (not (at .left) && not (falls (p - 1))); nw = not (at .left) && (not (at .top) && falls (p - columns - 1)) }))
-          ≡ scan higher p (turn columns p at (cornersAbove lower columns p at))
-      corners-above falls f =
-          rw f
-          (same-flag (p - (columns - 1)) _ _ (n ∷ []) _ (λ h. read-agree (at .top) (at .right) (λ i _. ne-above (north i) h))
-          ∙ same-flag (p + (columns + 1)) _ _ (n ∷ place _ (p - (columns - 1)) ∷ e ∷ []) _ (λ h. read-agree (at .right) (at .bottom) (λ _ _. se-above h))
-          ∙ same-flag (p + (columns - 1)) _ _ (n ∷ place _ (p - (columns - 1)) ∷ e ∷ place _ (p + (columns + 1)) ∷ s ∷ []) _
-          (λ h. read-agree (at .bottom) (at .left) (λ _ j. sw-above (west j) h))
-          ∙ same-flag (p - (columns + 1)) _ _ (n ∷ place _ (p - (columns - 1)) ∷ e ∷ place _ (p + (columns + 1)) ∷ s ∷ place _ (p + (columns - 1)) ∷ w ∷ []) _
-          (λ h. read-agree (at .left) (at .top) (λ i j. nw-above (northWest i j) h)))
+      -- a post under another name
+      named : (x y q : ℕ) → x ≡ y → lower x q ≡ true → lower y q ≡ true
+      named x y q e h = ap (λ (z : ℕ). lower z q) (sym e) ∙ h
+
+      module _ (falls : ℕ → Bool) (f : falls ≡ throughLowest lower columns) where
+        -- p's corners by the diagonals round it
+        abbrev joined : Corners
+        joined =
+            record {
+              ne = not (at .top) && (not (at .right) && not (falls (p - columns)));
+              se = not (at .right) && (not (at .bottom) && falls p);
+              sw = not (at .bottom) && (not (at .left) && not (falls (p - 1)));
+              nw = not (at .left) && (not (at .top) && falls (p - columns - 1));
+            }
+
+        told : (a : ℕ) (b : Bool) → falls a ≡ b → throughLowest lower columns a ≡ b
+        told a b h = ap (λ (g : ℕ → Bool). g a) (sym f) ∙ h
+
+        pub every-corner : scan lower p (turn columns p at joined) ≡ scan lower p (turn columns p at (cells at))
+        every-corner =
+            free-off (at .top) (at .right) p (p - (columns - 1)) _ (n ∷ []) _
+            (λ i j t.
+            let far : columns ≤ p = north i in
+            rw (i, j)
+            (falling columns (p - columns) wide (p - (columns - 1)) (told _ true (not-false _ t)) (List·Memᴰ·tail (List·Memᴰ·head (omega arith))) (λ x. omega arith) (λ x. omega arith)
+            (λ h. unseen p (p - columns) (p - (columns - 1)) [] _ h)
+            (λ h. unseen p (p + 1) (p - (columns - 1)) (place true (p - columns) ∷ []) _ (named _ (p + 1) _ (omega arith) h))))
+            ∙ free-off (at .right) (at .bottom) p (p + (columns + 1)) _ (n ∷ place _ (p - (columns - 1)) ∷ e ∷ []) _
+            (λ i j t.
+            rw (i, j)
+            (rising columns p wide (p + (columns + 1)) (told _ false t) (List·Memᴰ·tail (List·Memᴰ·tail (List·Memᴰ·tail (List·Memᴰ·head (omega arith))))) (λ x. omega arith) (λ x. omega arith)
+            (λ h. unseen p (p + 1) (p + (columns + 1)) (n ∷ place _ (p - (columns - 1)) ∷ []) _ h)
+            (λ h. unseen p (p + columns) (p + (columns + 1)) (n ∷ place _ (p - (columns - 1)) ∷ place true (p + 1) ∷ []) _ h)))
+            ∙ free-off (at .bottom) (at .left) p (p + (columns - 1)) _ (n ∷ place _ (p - (columns - 1)) ∷ e ∷ place _ (p + (columns + 1)) ∷ s ∷ []) _
+            (λ i j t.
+            let far : 1 ≤ p = west j in
+            rw (i, j)
+            (falling columns (p - 1) wide (p + (columns - 1)) (told _ true (not-false _ t)) (List·Memᴰ·tail (List·Memᴰ·tail (List·Memᴰ·head (omega arith)))) (λ x. omega arith) (λ x. omega arith)
+            (λ h. unseen p (p - 1) (p + (columns - 1)) (n ∷ place _ (p - (columns - 1)) ∷ e ∷ place _ (p + (columns + 1)) ∷ place true (p + columns) ∷ []) _ h)
+            (λ h. unseen p (p + columns) (p + (columns - 1)) (n ∷ place _ (p - (columns - 1)) ∷ e ∷ place _ (p + (columns + 1)) ∷ []) _ (named _ (p + columns) _ (omega arith) h))))
+            ∙ free-off (at .left) (at .top) p (p - (columns + 1)) _ (n ∷ place _ (p - (columns - 1)) ∷ e ∷ place _ (p + (columns + 1)) ∷ s ∷ place _ (p + (columns - 1)) ∷ w ∷ []) _
+            (λ i j t.
+            let far : columns + 1 ≤ p = northWest i j in
+            rw (i, j)
+            (rising columns (p - columns - 1) wide (p - (columns + 1)) (told _ false t) (List·Memᴰ·head (omega arith)) (λ x. omega arith) (λ x. omega arith)
+            (λ h. unseen p (p - columns) (p - (columns + 1)) [] _ (named _ (p - columns) _ (omega arith) h))
+            (λ h. unseen p (p - 1) (p - (columns + 1)) (place true (p - columns) ∷ place _ (p - (columns - 1)) ∷ e ∷ place _ (p + (columns + 1)) ∷ s ∷ place _ (p + (columns - 1)) ∷ []) _ (named _ (p - 1) _ (omega arith) h))))
+
+        pub corners-above : scan higher p (turn columns p at joined) ≡ scan higher p (turn columns p at (cornersLower higher columns p at))
+        corners-above =
+            rw f
+            (same-flag (p - (columns - 1)) _ _ (n ∷ []) _ (λ h. read-agree (at .top) (at .right) (λ i _. ne-above (north i) h))
+            ∙ same-flag (p + (columns + 1)) _ _ (n ∷ place _ (p - (columns - 1)) ∷ e ∷ []) _ (λ h. read-agree (at .right) (at .bottom) (λ _ _. se-above h))
+            ∙ same-flag (p + (columns - 1)) _ _ (n ∷ place _ (p - (columns - 1)) ∷ e ∷ place _ (p + (columns + 1)) ∷ s ∷ []) _
+            (λ h. read-agree (at .bottom) (at .left) (λ _ j. sw-above (west j) h))
+            ∙ same-flag (p - (columns + 1)) _ _ (n ∷ place _ (p - (columns - 1)) ∷ e ∷ place _ (p + (columns + 1)) ∷ s ∷ place _ (p + (columns - 1)) ∷ w ∷ []) _
+            (λ h. read-agree (at .left) (at .top) (λ i j. nw-above (northWest i j) h)))
 
 module _ {pl : Plot} {p : ℕ} (post : PostOf pl p) where
   abbrev at : Borders
@@ -347,12 +342,38 @@ module _ {pl : Plot} {p : ℕ} (post : PostOf pl p) where
         northWest = λ k. let b = both (at .left) (at .top) k in north-west s p (post .post) (b .0) (b .1);
       }
 
-  pub up-block : next (up pl) p ≡ scan (up pl .lower) p (turn pl.columns p at (cornersAbove (below pl) pl.columns p at))
-  up-block =
-      let s = post .valid .sides in
-      up-is post
-      ∙ corners-above (below pl) (below-strict pl) pl.columns p (s .wide) at (λ t. top-false s p .0 t) (λ l. not-left s p l) (λ l t. north-west s p (post .post) l t)
-      (fallsIn pl) refl
+  -- the corners that matter: toward the posts that cells are cut by all that are there, the other way those with both sides of their cell that way
+  abbrev pub seen : Bool → Corners
+  seen upward = cond (flipped pl.highest upward) (cornersLower (toward upward pl .lower) pl.columns p at) (cells at)
+
+  pub next-block : (upward : Bool) → (upward ≡ false → isBorder pl.rows pl.columns p ≡ false)
+      → next (toward upward pl) p ≡ scan (toward upward pl .lower) p (turn pl.columns p at (seen upward))
+  next-block upward off = go upward pl.highest refl off
+    where
+      north : top pl.columns p ≡ false → pl.columns ≤ p
+      north = top-false (post .valid .sides) p .0
+
+      west : left pl.columns p ≡ false → 1 ≤ p
+      west = not-left (post .valid .sides) p
+
+      corner : left pl.columns p ≡ false → top pl.columns p ≡ false → pl.columns + 1 ≤ p
+      corner = north-west (post .valid .sides) p (post .post)
+
+      cut : (h : Bool) → pl.highest ≡ h → fallsIn pl ≡ throughLowest (directed h (below pl)) pl.columns
+      cut h e = ap (λ (b : Bool). throughLowest (directed b (below pl)) pl.columns) e
+
+      go : (upward h : Bool) → pl.highest ≡ h → (upward ≡ false → isBorder pl.rows pl.columns p ≡ false)
+          → next (toward upward pl) p
+          ≡ scan (toward upward pl .lower) p (turn pl.columns p at (cond (flipped h upward) (cornersLower (toward upward pl .lower) pl.columns p at) (cells at)))
+      go true true e _ =
+          up-is post ∙ every-corner (reversed (below pl)) (reversed-strict (below-strict pl)) pl.columns p (post .valid .sides .wide) at north west corner (fallsIn pl) (cut true e)
+      go true false e _ =
+          up-is post ∙ corners-above (below pl) (below-strict pl) pl.columns p (post .valid .sides .wide) at north west corner (fallsIn pl) (cut false e)
+      go false true e off =
+          down-is post (off refl)
+          ∙ corners-above (reversed (below pl)) (reversed-strict (below-strict pl)) pl.columns p (post .valid .sides .wide) at north west corner (fallsIn pl) (cut true e)
+      go false false e off =
+          down-is post (off refl) ∙ every-corner (below pl) (below-strict pl) pl.columns p (post .valid .sides .wide) at north west corner (fallsIn pl) (cut false e)
 
   -- on no border
   module _ (border : isBorder pl.rows pl.columns p ≡ false) where
@@ -370,12 +391,6 @@ module _ {pl : Plot} {p : ℕ} (post : PostOf pl p) where
 
     pub inside-at : at ≡ inside
     inside-at = rw (off-top, off-right, off-bottom, off-left)
-
-    pub down-block : next (down pl) p ≡ scan (down pl .lower) p (turn pl.columns p inside everyCorner)
-    down-block =
-        down-is post border
-        ∙ rw (off-top, off-right, off-bottom, off-left)
-        (every-corner (below pl) (below-strict pl) pl.columns p (post .valid .sides .wide) (north-west (post .valid .sides) p (post .post) off-left off-top))
 
     pub inside-posts : Neighbours pl.rows pl.columns p inside (cells inside)
     inside-posts = subst (λ (a : Borders). Neighbours pl.rows pl.columns p a (cells a)) inside-at cell-posts

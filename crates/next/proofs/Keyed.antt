@@ -10,7 +10,8 @@ use lib.Signed.{ltZ}
 use borrow.Author.Tests.{ltb-true, ltb-false, lt-ltb, le-ltb, not-true}
 use Rattle.surface.specs.Plot.{Plot, maxSide, below, isHeight, height, virtualPit, PostOf}
 use Rattle.surface.specs.Edges.{lowestOr, Place, isBorder}
-use Rattle.surface.specs.Lines.{next, down, up, toward}
+use Rattle.surface.specs.Lines.{next, toward}
+use Rattle.surface.specs.Flags.{flipped}
 use Rattle.surface.proofs.General.Bools.{either, and-left}
 use Rattle.surface.proofs.General.FirstNot.{all-at}
 use Rattle.surface.proofs.OfPlots.HeightOrder.{below-lex}
@@ -19,10 +20,10 @@ use Rattle.post.specs.declared.border.Borders.{Borders}
 use Rattle.post.specs.declared.corner.Corners.{Corners}
 use Rattle.post.specs.Corners.{bordersOf}
 use Rattle.next.specs.declared.key.Block.{Block}
-use Rattle.next.specs.Scan.{inside, scan, turn, everyCorner, cornersAbove}
-use Rattle.next.specs.Keys.{raised, keyOf, Small, blockOf, cornersKept, around, farther}
+use Rattle.next.specs.Scan.{inside, cells, scan, turn, cornersLower}
+use Rattle.next.specs.Keys.{raised, keyOf, Small, blockOf, cornersKept, around, farther, farthestOf}
 use Rattle.next.proofs.Scanned.{toward-strict}
-use Rattle.next.proofs.Corners.{up-block, down-block, inside-at}
+use Rattle.next.proofs.Corners.{next-block, inside-at}
 
 -- heights in range, counted from the lowest
 high : (n : ℕ) → isHeight (pos n) ≡ true → n ≤ 1000000
@@ -154,32 +155,34 @@ module _ (pl : Plot) (p : ℕ) where
         let w = found up p l (omega arith, omega arith) (toward-strict up pl .irrefl p) a in
         tells k q (e ∙ w .0 ∙ ap key (sym f)) (rw f (w .1))
 
-    -- a corner that is kept where both sides x and y are above p; a and b: a border on which x, or y, is not there
-    kept : (a b : Bool) (x y q : ℕ) → Near pl.columns p x → Near pl.columns p y
-        → cond (ltb (key p) (key (cond (not a) x p)) && ltb (key p) (key (cond (not b) y p))) (key (cond (not a && not b) q p)) (key p)
-        ≡ key (cond (not a && (not b && (below pl p x && below pl p y))) q p)
-    kept true b x y q n m = level (ltb (key p) (key p) && ltb (key p) (key (cond (not b) y p))) (key p)
-    kept false true x y q n m = level (ltb (key p) (key x) && ltb (key p) (key p)) (key p)
-    kept false false x y q n m =
-        rw (key-below p x (omega arith, omega arith) n, key-below p y (omega arith, omega arith) m) (pull (below pl p x && below pl p y))
+    -- a corner that is kept where both sides x and y are that way from p; a and b: a border on which x, or y, is not there
+    kept : (up a b : Bool) (x y q : ℕ) → Near pl.columns p x → Near pl.columns p y
+        → cond (farther up (key (cond (not a) x p)) (key p) && farther up (key (cond (not b) y p)) (key p)) (key (cond (not a && not b) q p)) (key p)
+        ≡ key (cond (not a && (not b && (toward up pl .lower x p && toward up pl .lower y p))) q p)
+    kept up true b x y q n m = level (farther up (key p) (key p) && farther up (key (cond (not b) y p)) (key p)) (key p)
+    kept up false true x y q n m = level (farther up (key x) (key p) && farther up (key p) (key p)) (key p)
+    kept up false false x y q n m =
+        rw (farther-key up x p n (omega arith, omega arith), farther-key up y p m (omega arith, omega arith))
+        (pull (toward up pl .lower x p && toward up pl .lower y p))
       where
         pull : (g : Bool) → cond g (key q) (key p) ≡ key (cond g q p)
         pull true = refl
         pull false = refl
 
-    -- the block with its corners kept is that of the corners above p
-    kept-keys : (at : Borders) → around (cornersKept (blockOf key pl.columns p at)) ≡ keys (turn pl.columns p at (cornersAbove (below pl) pl.columns p at))
+    -- the block with its corners kept is that of the corners that way
+    kept-keys : (up : Bool) (at : Borders)
+        → around (cornersKept up (blockOf key pl.columns p at)) ≡ keys (turn pl.columns p at (cornersLower (toward up pl .lower) pl.columns p at))
     unfolding keys
-    kept-keys at =
+    kept-keys up at =
         let n : Near pl.columns p (p - pl.columns) = omega arith in
         let e : Near pl.columns p (p + 1) = omega arith in
         let s : Near pl.columns p (p + pl.columns) = omega arith in
         let w : Near pl.columns p (p - 1) = omega arith in
         rw (
-          kept (at .top) (at .right) (p - pl.columns) (p + 1) (p - (pl.columns - 1)) n e,
-          kept (at .right) (at .bottom) (p + 1) (p + pl.columns) (p + (pl.columns + 1)) e s,
-          kept (at .bottom) (at .left) (p + pl.columns) (p - 1) (p + (pl.columns - 1)) s w,
-          kept (at .left) (at .top) (p - 1) (p - pl.columns) (p - (pl.columns + 1)) w n,
+          kept up (at .top) (at .right) (p - pl.columns) (p + 1) (p - (pl.columns - 1)) n e,
+          kept up (at .right) (at .bottom) (p + 1) (p + pl.columns) (p + (pl.columns + 1)) e s,
+          kept up (at .bottom) (at .left) (p + pl.columns) (p - 1) (p + (pl.columns - 1)) s w,
+          kept up (at .left) (at .top) (p - 1) (p - pl.columns) (p - (pl.columns + 1)) w n,
         )
 
 -- next down and next up, by the lowest and the highest key
@@ -187,20 +190,22 @@ module _ {pl : Plot} {p : ℕ} (post : PostOf pl p) where
   abbrev block : Borders → Block
   block = blockOf (keyOf pl p) pl.columns p
 
-  told : (upward : Bool) (k : ℕ) (at : Borders) (joined : Corners) → k ≡ lowestOr (farther upward) (keyOf pl p p) (keys pl p (turn pl.columns p at joined))
-      → next (toward upward pl) p ≡ scan (toward upward pl .lower) p (turn pl.columns p at joined) → Tells pl p k (next (toward upward pl) p)
-  told upward k at joined e f = found-told pl p post upward k _ _ (turn-near pl.columns p at joined) e f
+  -- of the block, or of that with its corners kept
+  told : (upward s : Bool) (k : ℕ) (at : Borders)
+      → k ≡ lowestOr (farther upward) (keyOf pl p p) (around (cond s (cornersKept upward (block at)) (block at)))
+      → next (toward upward pl) p ≡ scan (toward upward pl .lower) p (turn pl.columns p at (cond s (cornersLower (toward upward pl .lower) pl.columns p at) (cells at)))
+      → Tells pl p k (next (toward upward pl) p)
+  unfolding keys
+  told upward true k at e f =
+      found-told pl p post upward k _ _ (turn-near pl.columns p at _) (e ∙ ap (lowestOr (farther upward) (keyOf pl p p)) (kept-keys pl p post upward at)) f
+  told upward false k at e f = found-told pl p post upward k _ _ (turn-near pl.columns p at (cells at)) e f
 
-  pub up-told : (k : ℕ) → k ≡ lowestOr (farther true) (keyOf pl p p) (around (cornersKept (block (bordersOf pl.rows pl.columns p)))) → Tells pl p k (next (up pl) p)
-  up-told k e =
-      let at = bordersOf pl.rows pl.columns p in
-      told true k at (cornersAbove (below pl) pl.columns p at) (e ∙ ap (lowestOr (farther true) (keyOf pl p p)) (kept-keys pl p post at)) (up-block post)
+  pub next-told : (upward : Bool) → (upward ≡ false → isBorder pl.rows pl.columns p ≡ false) → (k : ℕ)
+      → k ≡ farthestOf upward pl.highest (block (bordersOf pl.rows pl.columns p))
+      → Tells pl p k (next (toward upward pl) p)
+  next-told upward off k e = told upward (flipped pl.highest upward) k (bordersOf pl.rows pl.columns p) e (next-block post upward off)
 
-  module _ (border : isBorder pl.rows pl.columns p ≡ false) where
-    pub up-inside-told : (k : ℕ) → k ≡ lowestOr (farther true) (keyOf pl p p) (around (cornersKept (block inside))) → Tells pl p k (next (up pl) p)
-    up-inside-told k e =
-        up-told k (e ∙ ap (λ (at : Borders). lowestOr (farther true) (keyOf pl p p) (around (cornersKept (block at)))) (sym (inside-at post border)))
-
-    pub down-told : (k : ℕ) → k ≡ lowestOr (farther false) (keyOf pl p p) (around (block inside)) → Tells pl p k (next (down pl) p)
-    unfolding keys
-    down-told k e = told false k inside everyCorner e (down-block post border)
+  pub inside-told : (upward : Bool) → isBorder pl.rows pl.columns p ≡ false → (k : ℕ) → k ≡ farthestOf upward pl.highest (block inside)
+      → Tells pl p k (next (toward upward pl) p)
+  inside-told upward border k e =
+      next-told upward (λ _. border) k (e ∙ ap (λ (at : Borders). farthestOf upward pl.highest (block at)) (sym (inside-at post border)))

@@ -6,6 +6,8 @@ use mathlib.Core.List.{List, [], _∷_}
 use lib.Dec.{ltb}
 use lib.IntN.{ℤ, pos, negsuc}
 use Rattle.surface.specs.Plot.{Plot, posts, height}
+use Rattle.surface.specs.Edges.{lowestOr}
+use Rattle.surface.specs.Flags.{flipped}
 use Rattle.order.specs.Ties.{Near, tiePlace}
 use Rattle.post.specs.declared.border.Borders.{Borders}
 use Rattle.next.specs.declared.key.Block.{Block}
@@ -55,13 +57,20 @@ pub record SmallBlock (b : Block) : Type 0 where
   pub w : Small (b .w)
   pub nw : Small (b .nw)
 
--- a block with those corners only that have both sides of their cell above the post
-abbrev pub cornersKept : Block → Block
-cornersKept b =
-    let n = ltb (b .post) (b .n) in
-    let e = ltb (b .post) (b .e) in
-    let s = ltb (b .post) (b .s) in
-    let w = ltb (b .post) (b .w) in
+abbrev pub around : Block → List ℕ
+around b = b .n ∷ b .ne ∷ b .e ∷ b .se ∷ b .s ∷ b .sw ∷ b .w ∷ b .nw ∷ []
+
+-- the first is lower, or where `up` higher
+abbrev pub farther : Bool → ℕ → ℕ → Bool
+farther up a b = cond up (ltb b a) (ltb a b)
+
+-- a block with those corners only that have both sides of their cell below the post, or where `up` above it
+abbrev pub cornersKept : Bool → Block → Block
+cornersKept up b =
+    let n = farther up (b .n) (b .post) in
+    let e = farther up (b .e) (b .post) in
+    let s = farther up (b .s) (b .post) in
+    let w = farther up (b .w) (b .post) in
     record {
       post = b .post;
       n = b .n;
@@ -74,9 +83,7 @@ cornersKept b =
       nw = cond (w && n) (b .nw) (b .post);
     }
 
-abbrev pub around : Block → List ℕ
-around b = b .n ∷ b .ne ∷ b .e ∷ b .se ∷ b .s ∷ b .sw ∷ b .w ∷ b .nw ∷ []
-
--- the first is lower, or where `up` higher
-abbrev pub farther : Bool → ℕ → ℕ → Bool
-farther up a b = cond up (ltb b a) (ltb a b)
+-- the lowest key, or where `up` the highest, of a post and its neighbours; `highest` tells by which posts cells are cut. Toward these all corners may be
+-- looked at
+abbrev pub farthestOf : Bool → Bool → Block → ℕ
+farthestOf up highest b = lowestOr (farther up) (b .post) (around (cond (flipped highest up) (cornersKept up b) b))

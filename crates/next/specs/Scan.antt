@@ -1,6 +1,6 @@
 -- The lowest of a post and its neighbours, found by a scan of the places round it, in an order: the height order, or it reversed for the highest.
 use Prim.Native.Nat.{ℕ, _+_, _-_}
-use mathlib.Core.Bool.{Bool, true, false, cond, not, _&&_}
+use mathlib.Core.Bool.{Bool, false, cond, not, _&&_}
 use mathlib.Core.List.{List, [], _∷_}
 use Rattle.surface.specs.Edges.{lowerOf, Place, place}
 use Rattle.post.specs.declared.border.Borders.{Borders}
@@ -42,17 +42,13 @@ turn columns p at joined =
     ∷ place (joined .nw) (p - (columns + 1))
     ∷ []
 
--- joined to every corner
-abbrev pub everyCorner : Corners
-everyCorner = record { ne = true; se = true; sw = true; nw = true }
-
--- joined to a corner where their cell is there and both its sides are above p
-abbrev pub cornersAbove : (ℕ → ℕ → Bool) → ℕ → ℕ → Borders → Corners
-cornersAbove lower columns p at =
-    let n = lower p (p - columns) in
-    let e = lower p (p + 1) in
-    let s = lower p (p + columns) in
-    let w = lower p (p - 1) in
+-- joined to a corner where their cell is there and both its sides are lower than p
+abbrev pub cornersLower : (ℕ → ℕ → Bool) → ℕ → ℕ → Borders → Corners
+cornersLower lower columns p at =
+    let n = lower (p - columns) p in
+    let e = lower (p + 1) p in
+    let s = lower (p + columns) p in
+    let w = lower (p - 1) p in
     record {
       ne = not (at .top) && (not (at .right) && (n && e));
       se = not (at .right) && (not (at .bottom) && (e && s));

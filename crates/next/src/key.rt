@@ -2,8 +2,10 @@
 use order::post_at;
 use order::tie_place;
 use post::border::Borders;
+use surface::DOWN;
 use surface::Grid;
 use surface::HIGHEST;
+use surface::UP;
 ghost use mathlib.Core.Path.{_≡_};
 ghost use mathlib.Core.Bool.{true, cond};
 ghost use Prim.Native.Nat.{_+_, _-_, _≤_, _<_, _%_};
@@ -13,7 +15,7 @@ ghost use Rattle.surface.specs.Edges.{lowerOf, lowestOr};
 ghost use Rattle.order.specs.Ties.{Near};
 ghost use Rattle.post.specs.Corners.{Neighbours};
 ghost use Rattle.next.specs.Scan.{inside, cells};
-ghost use Rattle.next.specs.Keys.{raised, keyOf, Beside, Small, SmallBlock, blockOf, cornersKept, around, farther};
+ghost use Rattle.next.specs.Keys.{raised, keyOf, Beside, Small, SmallBlock, blockOf, around, farther, cornersKept, farthestOf};
 
 // The keys of a post and of the eight round it. Where there is no neighbour it is the post's own, which is never chosen before another.
 pub struct Block {
@@ -55,7 +57,7 @@ fn key_round(heights: &[i32], grid: Grid, p: usize, ahead: usize, back: usize, t
     key_of(heights, grid, p, p)
 }
 // The keys round p, which stands at these borders.
-pub(crate) fn block_at(heights: &[i32], grid: Grid, p: usize, at: Borders) -> Block
+fn block_at(heights: &[i32], grid: Grid, p: usize, at: Borders) -> Block
     requires { ⌜ Valid (plotOf grid (now heights)) × Neighbours (grid .rows) (grid .columns) p at (cells at) ⌝ }
     ensures { λ r. ⌜ (r ≡ blockOf (keyOf (plotOf grid (now (heights .entry))) p) (grid .columns) p at) × SmallBlock r ⌝ }
 {
@@ -74,7 +76,7 @@ pub(crate) fn block_at(heights: &[i32], grid: Grid, p: usize, at: Borders) -> Bl
 }
 
 // The keys round p, which stands on no border: nothing to choose, so that a walk, which waits for each key, is the quicker.
-pub(crate) fn block_inside(heights: &[i32], grid: Grid, p: usize) -> Block
+fn block_inside(heights: &[i32], grid: Grid, p: usize) -> Block
     requires { ⌜ Valid (plotOf grid (now heights)) × Neighbours (grid .rows) (grid .columns) p inside (cells inside) ⌝ }
     ensures { λ r. ⌜ (r ≡ blockOf (keyOf (plotOf grid (now (heights .entry))) p) (grid .columns) p inside) × SmallBlock r ⌝ }
 {
@@ -114,15 +116,23 @@ fn is_less(x: u32, y: u32) -> bool
     (x as i32) < (y as i32)
 }
 
-// The block with those corners only that have both sides of their cell above the post.
-pub(crate) fn keep_corners(b: Block) -> Block
-    requires { ⌜ SmallBlock b ⌝ }
-    ensures { λ r. ⌜ (r ≡ cornersKept b) × SmallBlock r ⌝ }
+// x is lower than y, or where `up` higher.
+fn is_farther(up: bool, x: u32, y: u32) -> bool
+    requires { ⌜ Small x × Small y ⌝ }
+    ensures { λ r. ⌜ r ≡ farther up x y ⌝ }
 {
-    let n = is_less(b.post, b.n);
-    let e = is_less(b.post, b.e);
-    let s = is_less(b.post, b.s);
-    let w = is_less(b.post, b.w);
+    pick(up, is_less(y, x), is_less(x, y))
+}
+
+// The block with those corners only that have both sides of their cell below the post, or where `up` above it.
+fn keep_corners(up: bool, b: Block) -> Block
+    requires { ⌜ SmallBlock b ⌝ }
+    ensures { λ r. ⌜ (r ≡ cornersKept up b) × SmallBlock r ⌝ }
+{
+    let n = is_farther(up, b.n, b.post);
+    let e = is_farther(up, b.e, b.post);
+    let s = is_farther(up, b.s, b.post);
+    let w = is_farther(up, b.w, b.post);
     Block {
         post: b.post,
         n: b.n,
@@ -141,12 +151,11 @@ fn farther_of(up: bool, x: u32, y: u32) -> u32
     requires { ⌜ Small x × Small y ⌝ }
     ensures { λ r. ⌜ (r ≡ lowerOf (farther up) x y) × Small r ⌝ }
 {
-    let take = pick(up, is_less(x, y), is_less(y, x));
-    choose(take, y, x)
+    choose(is_farther(up, y, x), y, x)
 }
 
 // The lowest key of a block, or where `up` the highest.
-pub(crate) fn farthest_in(up: bool, b: Block) -> u32
+fn farthest_in(up: bool, b: Block) -> u32
     requires { ⌜ SmallBlock b ⌝ }
     ensures { λ r. ⌜ r ≡ lowestOr (farther up) (b .post) (around b) ⌝ }
 {
@@ -158,6 +167,37 @@ pub(crate) fn farthest_in(up: bool, b: Block) -> u32
     let sw = farther_of(up, s, b.sw);
     let w = farther_of(up, sw, b.w);
     farther_of(up, w, b.nw)
+}
+
+// The lowest key, or where `up` the highest, of p, which stands on no border, and its neighbours. Four cases, so that the compiler knows the direction in
+// each.
+pub(crate) fn farthest_inside(heights: &[i32], grid: Grid, p: usize, up: bool) -> u32
+    requires { ⌜ Valid (plotOf grid (now heights)) × Neighbours (grid .rows) (grid .columns) p inside (cells inside) ⌝ }
+    ensures { λ r. ⌜ r ≡ farthestOf up (grid .highest) (blockOf (keyOf (plotOf grid (now (heights .entry))) p) (grid .columns) p inside) ⌝ }
+{
+    let b = block_inside(heights, grid, p);
+    if up {
+        if grid.highest {
+            return farthest_in(UP, b);
+        }
+        return farthest_in(UP, keep_corners(UP, b));
+    }
+    if grid.highest {
+        return farthest_in(DOWN, keep_corners(DOWN, b));
+    }
+    farthest_in(DOWN, b)
+}
+
+// The highest key of p, which stands at these borders, and its neighbours.
+pub(crate) fn highest_at(heights: &[i32], grid: Grid, p: usize, at: Borders) -> u32
+    requires { ⌜ Valid (plotOf grid (now heights)) × Neighbours (grid .rows) (grid .columns) p at (cells at) ⌝ }
+    ensures { λ r. ⌜ r ≡ farthestOf true (grid .highest) (blockOf (keyOf (plotOf grid (now (heights .entry))) p) (grid .columns) p at) ⌝ }
+{
+    let b = block_at(heights, grid, p, at);
+    if grid.highest {
+        return farthest_in(UP, b);
+    }
+    farthest_in(UP, keep_corners(UP, b))
 }
 
 // The post that has key k among those round p.

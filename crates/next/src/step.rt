@@ -1,14 +1,12 @@
 // Next down and next up from a post: the lowest, or highest, key round it.
 //
-// The diagonals need not be known. Downward every corner may be looked at: one that is not joined has a lower post beside it, which is. Upward a
-// corner that is above the post is joined to it exactly where both sides of their cell are above the post too, since the diagonal goes through the
-// lowest of the four.
+// The diagonals need not be known. Where they go through the lowest posts of cells, downward every corner may be looked at: one that is not joined has a
+// lower post beside it, which is. Upward a corner that is above the post is joined to it exactly where both sides of their cell are above the post too,
+// since the diagonal goes through the lowest of the four. Where they go through the highest posts, up and down change places.
 use crate::key;
 use post::border::borders_of;
 use post::border::is_border;
-use surface::DOWN;
 use surface::Grid;
-use surface::UP;
 use surface::VIRTUAL_PIT;
 ghost use mathlib.Core.Path.{_≡_};
 ghost use mathlib.Core.Bool.{false};
@@ -21,13 +19,8 @@ pub fn next_inside(heights: &[i32], grid: Grid, p: usize, up: bool) -> usize
     requires { ⌜ PostOf (plotOf grid (now heights)) p × (isBorder (grid .rows) (grid .columns) p ≡ false) ⌝ }
     ensures { λ r. ⌜ r ≡ next (toward up (plotOf grid (now (heights .entry)))) p ⌝ }
 {
-    let block = key::block_inside(heights, grid, p);
-    if up {
-        let highest = key::farthest_in(UP, key::keep_corners(block));
-        return key::post_of(grid, p, highest);
-    }
-    let lowest = key::farthest_in(DOWN, block);
-    key::post_of(grid, p, lowest)
+    let best = key::farthest_inside(heights, grid, p, up);
+    key::post_of(grid, p, best)
 }
 
 // Next up from any post; used for those on a border.
@@ -36,9 +29,8 @@ fn next_up_anywhere(heights: &[i32], grid: Grid, p: usize) -> usize
     ensures { λ r. ⌜ r ≡ next (up (plotOf grid (now (heights .entry)))) p ⌝ }
 {
     let at = borders_of(grid, p);
-    let block = key::block_at(heights, grid, p, at);
-    let highest = key::farthest_in(UP, key::keep_corners(block));
-    key::post_of(grid, p, highest)
+    let best = key::highest_at(heights, grid, p, at);
+    key::post_of(grid, p, best)
 }
 
 // Next down, or where `up` next up, from any post. From a post on a border next down is the virtual pit.

@@ -8,19 +8,20 @@ ghost use Rattle.surface.specs.Plot.{plotOf, posts, Valid};
 ghost use Rattle.surface.specs.Edges.{fallsIn};
 
 // The diagonal of cell a falls: its lowest post is the north-western one, below which none of the others is, or the south-eastern one, which is below
-// them all.
+// them all. Where cells are cut through their highest posts, the same with above for below.
 fn falls(heights: &[i32], grid: Grid, a: usize) -> bool
     requires { ⌜ Valid (plotOf grid (now heights)) × (a + grid .columns + 1 < posts (plotOf grid (now heights))) ⌝ }
     ensures { λ r. ⌜ r ≡ fallsIn (plotOf grid (now (heights .entry))) a ⌝ }
 {
+    let turned = grid.highest;
     let east = a + 1;
     let south = a + grid.columns;
     let across = south + 1;
-    let e = later_is_below(heights, grid, a, east);
-    let s = later_is_below(heights, grid, a, south);
-    let se = later_is_below(heights, grid, a, across);
-    let east_s = later_is_below(heights, grid, east, across);
-    let south_e = later_is_below(heights, grid, south, across);
+    let e = later_is_below(heights, grid, a, east) ^ turned;
+    let s = later_is_below(heights, grid, a, south) ^ turned;
+    let se = later_is_below(heights, grid, a, across) ^ turned;
+    let east_s = later_is_below(heights, grid, east, across) ^ turned;
+    let south_e = later_is_below(heights, grid, south, across) ^ turned;
     !e & !s & !se | se & east_s & south_e
 }
 

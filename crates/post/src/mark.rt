@@ -1,5 +1,6 @@
 // The mark of a post, by which of the eight posts round it are below it. The diagonals need not be known: from one side of a post round to the next, a
-// lower run starts exactly where the first side is not below the post and the second, or the corner between them, is.
+// lower run starts exactly where the first side is not below the post and the second, or the corner between them, is. Where cells are cut through their
+// highest posts the same holds of upper runs and the posts above; there are as many upper runs as lower ones.
 use crate::border::Borders;
 use crate::border::borders_of;
 use order::earlier_is_below;
@@ -46,13 +47,17 @@ fn mark_by(first: bool, runs: u8) -> u8
 }
 
 // The mark of a post round which these are below it.
-pub fn mark_of(b: Below) -> u8
-    ensures { λ r. ⌜ r ≡ markFrom b ⌝ }
+pub fn mark_of(b: Below, highest: bool) -> u8
+    ensures { λ r. ⌜ r ≡ markFrom highest b ⌝ }
 {
-    let ne = starts(b.n, b.ne, b.e);
-    let se = starts(b.e, b.se, b.s);
-    let sw = starts(b.s, b.sw, b.w);
-    let nw = starts(b.w, b.nw, b.n);
+    let n = b.n ^ highest;
+    let e = b.e ^ highest;
+    let s = b.s ^ highest;
+    let w = b.w ^ highest;
+    let ne = starts(n, b.ne ^ highest, e);
+    let se = starts(e, b.se ^ highest, s);
+    let sw = starts(s, b.sw ^ highest, w);
+    let nw = starts(w, b.nw ^ highest, n);
     mark_by(b.n, ne + se + sw + nw)
 }
 
@@ -102,5 +107,5 @@ pub fn mark_at(heights: &[i32], grid: Grid, p: usize) -> u8
     ensures { λ r. ⌜ r ≡ markAt (plotOf grid (now (heights .entry))) p ⌝ }
 {
     let at = borders_of(grid, p);
-    mark_of(below_at(heights, grid, p, at))
+    mark_of(below_at(heights, grid, p, at), grid.highest)
 }

@@ -10,10 +10,10 @@ use Rattle.marks.proofs.fill_row.Statement.{statement}
 use Rattle.marks.proofs.fill_row.Tie as tie
 
 abbrev Inv-loop : tie.InvT-loop
-Inv-loop flags₀ n c₀ flags c = (c ≤ n) × (length flags ≡ length flags₀) × (flags ≡ stores (λ _. true) 0 c flags₀)
+Inv-loop flags₀ at n c₀ flags c = (c ≤ n) × (length flags ≡ length flags₀) × (flags ≡ stores (λ _. true) at c flags₀)
 
 abbrev μ-loop : tie.MeasureT-loop
-μ-loop flags₀ n c₀ flags c = n - c
+μ-loop flags₀ at n c₀ flags c = n - c
 
 loop-holds : tie.Need-loop-holds Inv-loop μ-loop
 unfolding stores
@@ -25,7 +25,7 @@ loop-again c =
     let a = c .before .before .args in (
       omega arith,
       length-set (l .flags) _ _ ∙ l .inv .1,
-      store-next _ 0 (l .c) (l .c + 1) (l .flags) (a .flags .now) (l .c) _ (l .inv .2) (omega arith) refl refl,
+      store-next _ (a .at) (l .c) (l .c + 1) (l .flags) (a .flags .now) (a .at + l .c) _ (l .inv .2) refl refl refl,
     )
 
 same-length : tie.Need-same-length Inv-loop μ-loop
@@ -38,4 +38,4 @@ returns c =
     rw e at (l .inv .2)
 
 pub fill-row-spec : {M : Type 1} → statement M
-fill-row-spec = tie.close (tie.spec Inv-loop μ-loop loop-holds (λ c. omega arith) (λ c. omega arith) (λ c. omega arith) loop-again same-length returns)
+fill-row-spec = tie.close (tie.spec Inv-loop μ-loop loop-holds (λ c. omega arith) (λ c. omega arith) (λ c. omega arith) (λ c. omega arith) loop-again same-length returns)

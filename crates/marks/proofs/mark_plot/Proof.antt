@@ -33,6 +33,9 @@ row i = let g = i .before .before .before .args .grid in row-of (g .rows) (g .co
 array-write-side : tie.Need-array-write-side Inv-loop μ-loop
 array-write-side c = omega (arith, c .before .pre .0 .sides)
 
+array-write-sfall : tie.Need-array-write-sfall Inv-loop μ-loop
+array-write-sfall c = omega (arith, c .before .pre .0 .sides)
+
 add-width : tie.Need-add-width Inv-loop μ-loop
 add-width c = omega (arith, c .before .pre .0 .sides)
 
@@ -55,12 +58,19 @@ loop-holds c =
       nriseLong = refl;
       sideLong = length-set (replicate 130 false) k true;
       southLong = refl;
-      sfallLong = refl;
-      sriseLong = refl;
+      sfallLong = length-set (replicate 130 false) k true;
+      sriseLong = length-set (replicate 130 false) 0 true;
       outLong = refl;
-      above = rw (zero-mul k) (north-start f _ _ _ (all-false 130));
+      above = rw (zero-mul k) (north-start f _ (all-false 130));
       west = getD-set-other (replicate 130 false) k 0 true false (λ e. omega (arith, f .sides)) ∙ all-false 130 0;
       east = getD-set-same (replicate 130 false) k true false (omega arith);
+      ends =
+          record {
+            fallFirst = getD-set-other (replicate 130 false) k 0 true false (λ e. omega (arith, f .sides)) ∙ all-false 130 0;
+            fallLast = getD-set-same (replicate 130 false) k true false (omega arith);
+            riseFirst = getD-set-same (replicate 130 false) 0 true false (omega arith);
+            riseLast = getD-set-other (replicate 130 false) 0 k true false (λ e. omega (arith, f .sides)) ∙ all-false 130 k;
+          };
       done = rw (zero-mul k);
     }
 
@@ -74,10 +84,10 @@ south-rows-requires : tie.Need-south-rows-requires Inv-loop μ-loop
 south-rows-requires c κs =
     let f = valid (c .before .before .before .before .before .before .before) in
     let v = c .before .before .before .before .before .before .before .loop .inv in
-    (f, row (c .before .before .before .before .before .before), record { southLong = omega (arith, f .sides, v); sfallLong = omega (arith, f .sides, v); sriseLong = omega (arith, f .sides, v) })
+    (f, row (c .before .before .before .before .before .before), record { southLong = omega (arith, f .sides, v); sfallLong = omega (arith, f .sides, v); sriseLong = omega (arith, f .sides, v) }, v .ends)
 
-mark-row-requires : tie.Need-mark-row-requires Inv-loop μ-loop
-mark-row-requires c κs =
+mark-ruled-requires : tie.Need-mark-ruled-requires Inv-loop μ-loop
+mark-ruled-requires c κs =
     let v = c .before .before .before .before .before .before .before .before .before .before .before .before .before .before .before .before .before .before .before .loop .inv in
     let k = c .before .before .before .before .before .before .before .before .before .before .before .south-rows in (
       record {
@@ -95,7 +105,7 @@ mark-row-requires c κs =
 copy-row-requires : tie.Need-copy-row-requires Inv-loop μ-loop
 copy-row-requires c κs =
     let v = c .before .before .before .before .before .before .before .before .before .before .before .before .before .before .before .before .before .before .before .before .before .before .before .loop .inv in (
-      omega (arith, c .before .before .before .mark-row .kept .1 .1 .1 .1 .1 .1 .1 .0, v .outLong, v .wide, v .narrow),
+      omega (arith, c .before .before .before .mark-ruled .kept .1 .1 .1 .1 .1 .1 .1 .1 .0, v .outLong, v .wide, v .narrow),
       omega (arith, row (c .before .before .before .before .before .before .before .before .before .before .before .before .before .before .before .before .before .before .before .before .before .before), v .marksLong, c .before .before .before .before .before .before .before .before .before .before .before .before .before .before .before .before .before .before .before .before .before .before .before .before .before .pre .1),
     )
 
@@ -125,13 +135,14 @@ loop-again c =
       southLong = lower .kept .1 .1 .1 .0 ∙ v .southLong;
       sfallLong = lower .kept .1 .1 .1 .1 .0 ∙ v .sfallLong;
       sriseLong = lower .kept .1 .1 .1 .1 .1 .0 ∙ v .sriseLong;
-      outLong = c .before .before .before .before .before .before .mark-row .kept .1 .1 .1 .1 .1 .1 .1 .0 ∙ v .outLong;
+      outLong = c .before .before .before .before .before .before .mark-ruled .kept .1 .1 .1 .1 .1 .1 .1 .1 .0 ∙ v .outLong;
       above = rw next (north-next f w _ _ _ (lower .ensures));
       west = side .west;
       east = side .east;
+      ends = lower .ensures .ends;
       done =
           stores-join _ 0 (b * k) (b * k) k ((b + 1) * k) (a .marks .now) _ _ (v .done)
-          (row-marked f w (v .above) side (lower .ensures) _ _ _ _ _ (v .wide) (omega (arith, v .outLong, v .narrow)) (c .before .before .before .before .before .before .mark-row .ensures) (c .before .before .copy-row .ensures))
+          (row-marked f w (v .above) side (lower .ensures) _ _ _ _ _ (v .wide) (omega (arith, v .outLong, v .narrow)) (c .before .before .before .before .before .before .mark-ruled .ensures) (c .before .before .copy-row .ensures))
           (omega arith) next;
     }
 
@@ -147,4 +158,4 @@ returns c =
     l .loop .inv .done ∙ rw e (stores-all _ (a .grid .rows * a .grid .columns) (a .marks .now) 0 (c .before .before .before .pre .1))
 
 pub mark-plot-spec : {M : Type 1} → statement M
-mark-plot-spec = tie.close (tie.spec Inv-loop μ-loop array-write-side add-width mul-width loop-holds mul-base (search needs) east-row-requires (search needs) (search needs) (search needs) south-rows-requires (search needs) (search needs) (search needs) (search needs) (search needs) (search needs) (search needs) (search needs) mark-row-requires (search needs) copy-row-requires add-r (λ c. omega arith) loop-again same-length returns)
+mark-plot-spec = tie.close (tie.spec Inv-loop μ-loop array-write-side array-write-sfall (search needs) add-width mul-width loop-holds mul-base (search needs) east-row-requires (search needs) (search needs) (search needs) south-rows-requires (search needs) (search needs) (search needs) (search needs) (search needs) (search needs) (search needs) (search needs) mark-ruled-requires (search needs) copy-row-requires add-r (λ c. omega arith) loop-again same-length returns)

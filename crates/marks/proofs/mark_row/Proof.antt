@@ -12,13 +12,13 @@ use Rattle.marks.proofs.mark_row.Statement.{statement}
 use Rattle.marks.proofs.mark_row.Tie as tie
 
 abbrev Inv-loop : tie.InvT-loop
-Inv-loop north nfall nrise side south sfall srise out₀ width c₀ out c =
+Inv-loop north nfall nrise side south sfall srise highest out₀ width c₀ out c =
     (c ≤ width)
     × (length out ≡ length out₀)
-    × (out ≡ stores (λ k. markFrom (roundOf north nfall nrise side south sfall srise k)) 0 c out₀)
+    × (out ≡ stores (λ k. markFrom highest (roundOf north nfall nrise side south sfall srise k)) 0 c out₀)
 
 abbrev μ-loop : tie.MeasureT-loop
-μ-loop north nfall nrise side south sfall srise out₀ width c₀ out c = width - c
+μ-loop north nfall nrise side south sfall srise highest out₀ width c₀ out c = width - c
 
 loop-holds : tie.Need-loop-holds Inv-loop μ-loop
 unfolding stores

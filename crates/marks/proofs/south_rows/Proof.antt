@@ -44,13 +44,27 @@ later-row-requires-3 c κs = let start = c .before .before .before .before .befo
 returns : tie.Need-returns
 returns c =
     let pre = c .before .before .before .before .before .before .before .before .before .before .before .before .before .before .before .before .pre in
-    south-told (pre .0) (pre .1) _ _ _ _ _ _ (below (c .before .before .before .before .before .before .before .before .before .before .before .before) .1) (pre .2 .southLong) (pre .2 .sfallLong) (pre .2 .sriseLong) (c .before .before .before .before .before .before .before .before .before .before .later-row .ensures) (c .before .before .before .before .before .before .later-row2 .ensures) (c .before .before .later-row3 .ensures)
+    south-told (pre .0) (pre .1) _ _ _ _ _ _ (below (c .before .before .before .before .before .before .before .before .before .before .before .before) .1) (pre .2 .southLong) (pre .2 .sfallLong) (pre .2 .sriseLong) (c .before .before .before .before .before .before .before .before .before .before .later-row .ensures) (c .before .before .before .before .before .before .later-row2 .ensures) (c .before .before .later-row3 .ensures) (pre .3)
 
 fill-row-requires : tie.Need-fill-row-requires
-fill-row-requires c κs = c .before .before .before .before .before .pre .2 .southLong
+fill-row-requires c κs = omega (arith, c .before .before .before .before .before .pre .2 .southLong)
+
+sub-fill-row : tie.Need-sub-fill-row
+sub-fill-row c = omega (arith, c .before .before .before .before .before .before .before .before .before .pre .0 .sides)
+
+fill-row-requires-2 : tie.Need-fill-row-requires-2
+fill-row-requires-2 c κs = let pre = c .before .before .before .before .before .before .before .before .before .pre in omega (arith, pre .2 .sfallLong, pre .0 .sides .wide)
+
+sub-fill-row-2 : tie.Need-sub-fill-row-2
+sub-fill-row-2 c = omega (arith, c .before .before .before .before .before .before .before .before .before .before .before .before .before .pre .0 .sides)
+
+fill-row-requires-3 : tie.Need-fill-row-requires-3
+fill-row-requires-3 c κs = let pre = c .before .before .before .before .before .before .before .before .before .before .before .before .before .pre in omega (arith, pre .2 .sriseLong, pre .0 .sides .wide)
 
 returns-2 : tie.Need-returns-2
-returns-2 c = let pre = c .before .before .before .before .before .before .before .before .pre in south-pit (pre .0) (pre .1) _ _ _ _ (omega (arith, pre .0 .size, c .before .before .before .before .if1 .left)) (pre .2 .southLong) (c .before .before .fill-row .ensures)
+returns-2 c =
+    let pre = c .before .before .before .before .before .before .before .before .before .before .before .before .before .before .before .before .pre in
+    south-pit (pre .0) (pre .1) _ _ _ _ _ _ (omega (arith, pre .0 .size, c .before .before .before .before .before .before .before .before .before .before .before .before .if1 .left)) (pre .2 .southLong) (pre .2 .sfallLong) (pre .2 .sriseLong) (c .before .before .before .before .before .before .before .before .before .before .fill-row .ensures) (c .before .before .before .before .before .before .fill-row2 .ensures) (c .before .before .fill-row3 .ensures) (pre .3)
 
 pub south-rows-spec : {M : Type 1} → statement M
-south-rows-spec = tie.close (tie.spec add-next later-row-requires add-later-row sub-later-row later-row-requires-2 add-later-row-2 sub-later-row-2 later-row-requires-3 (search needs) (search needs) (search needs) returns fill-row-requires (search needs) returns-2)
+south-rows-spec = tie.close (tie.spec add-next later-row-requires add-later-row sub-later-row later-row-requires-2 add-later-row-2 sub-later-row-2 later-row-requires-3 (search needs) (search needs) (search needs) returns fill-row-requires sub-fill-row fill-row-requires-2 sub-fill-row-2 fill-row-requires-3 (search needs) (search needs) (search needs) returns-2)

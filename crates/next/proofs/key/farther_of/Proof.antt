@@ -6,9 +6,9 @@ use Rattle.next.proofs.key.farther_of.Tie as tie
 
 returns : tie.Need-returns
 returns c = (
-  rw (c .choose .ensures, c .before .pick .ensures, c .before .before .is-less2 .ensures, c .before .before .before .is-less .ensures),
-  rw (c .choose .ensures) (small-cond (c .before .pick .result) _ _ (c .before .before .before .before .pre .1) (c .before .before .before .before .pre .0)),
+  rw (c .choose .ensures, c .before .is-farther .ensures),
+  rw (c .choose .ensures) (small-cond (c .before .is-farther .result) _ _ (c .before .before .pre .1) (c .before .before .pre .0)),
 )
 
 pub farther-of-spec : {M : Type 1} → statement M
-farther-of-spec = tie.close (tie.spec (search needs) (search needs) (search needs) (search needs) returns)
+farther-of-spec = tie.close (tie.spec (search needs) (search needs) returns)

@@ -15,17 +15,17 @@ returns c =
     let e = s .before in
     let n = e .before in
     let small = n .before .pre in (
-      rw (c .choose4 .ensures, sw .choose3 .ensures, se .choose2 .ensures, ne .choose .ensures, w .is-less4 .ensures, s .is-less3 .ensures, e .is-less2 .ensures, n .is-less .ensures),
+      rw (c .choose4 .ensures, sw .choose3 .ensures, se .choose2 .ensures, ne .choose .ensures, w .is-farther4 .ensures, s .is-farther3 .ensures, e .is-farther2 .ensures, n .is-farther .ensures),
       record {
         post = small .post;
         n = small .n;
-        ne = rw (ne .choose .ensures) (small-cond (n .is-less .result && e .is-less2 .result) _ _ (small .ne) (small .post));
+        ne = rw (ne .choose .ensures) (small-cond (n .is-farther .result && e .is-farther2 .result) _ _ (small .ne) (small .post));
         e = small .e;
-        se = rw (se .choose2 .ensures) (small-cond (e .is-less2 .result && s .is-less3 .result) _ _ (small .se) (small .post));
+        se = rw (se .choose2 .ensures) (small-cond (e .is-farther2 .result && s .is-farther3 .result) _ _ (small .se) (small .post));
         s = small .s;
-        sw = rw (sw .choose3 .ensures) (small-cond (s .is-less3 .result && w .is-less4 .result) _ _ (small .sw) (small .post));
+        sw = rw (sw .choose3 .ensures) (small-cond (s .is-farther3 .result && w .is-farther4 .result) _ _ (small .sw) (small .post));
         w = small .w;
-        nw = rw (c .choose4 .ensures) (small-cond (w .is-less4 .result && n .is-less .result) _ _ (small .nw) (small .post));
+        nw = rw (c .choose4 .ensures) (small-cond (w .is-farther4 .result && n .is-farther .result) _ _ (small .nw) (small .post));
       },
     )
 
