@@ -4,14 +4,14 @@ use native.Mathlib.Omega.{arith}
 use native.Mathlib.Nat.{zero-add}
 use mathlib.Core.Path.{_≡_, sym, _∙_, ap}
 use mathlib.Core.Bool.{not}
-use mathlib.Core.List.{List, [], _∷_}
+use mathlib.Core.List.{List, [], _∷_, _++_}
 use borrow.Author.Tests.{ne-eqb, eqb-true, lt-ltb, le-ltb, ltb-true, not-false}
 use lib.ListN.{length}
 use lib.Seq.{sets, sets-eq}
 use Rattle.surface.specs.Plot.{Plot, posts, isHeight, Vertex, PostOf}
 use Rattle.surface.specs.Marks.{markAt}
 use Rattle.surface.specs.Lines.{Descent, walk, runsOf, lineStart, line}
-use Rattle.surface.specs.Refusals.{Row, accepted, verdict, lineVerdict, row1, row2, row4, row5, row7, row8, row9}
+use Rattle.surface.specs.Refusals.{Row, accepted, verdict, leading, nextVerdict, lineVerdict, row4, row5, row7, row8, row9}
 use Rattle.surface.specs.Calls.{lineAnswer, lineList}
 use Rattle.surface.specs.declared.Answer.{Answer}
 use Rattle.surface.specs.declared.Entries.{Entries}
@@ -19,27 +19,36 @@ use Rattle.surface.proofs.General.FirstNot.{ranged-all}
 use Rattle.surface.proofs.AnyOrder.Grid.{test-sides}
 use Rattle.surface.proofs.AnyOrder.RunMembers.{runs-run}
 use Rattle.surface.proofs.AnyOrder.Walks.{Falling, line-falls}
+use Rattle.surface.proofs.OfCalls.Accepted.{SheetPasses}
 use Rattle.surface.proofs.OfCalls.Verdicts.{code, passed, row-holds, row-passed, none-left, leads-refused, leads-passed}
 
--- rows 1, 2, 4 and 5
-abbrev pub postRows : Plot → ℕ → List Row
-postRows pl post = row1 pl.rows pl.columns ∷ row2 pl ∷ row4 isHeight pl.heights ∷ row5 pl post ∷ []
+-- what acceptance of a post says: the sheet is not bad, and it is a post of a plot
+module _ (pl : Plot) (post : ℕ) where
+  abbrev postRows : List Row
+  postRows = leading pl ++ row4 isHeight pl.heights ∷ row5 pl post ∷ []
 
-pub post-valid : (pl : Plot) (post : ℕ) → verdict (postRows pl post) .code ≡ 0 → PostOf pl post
-post-valid pl post e =
-    let row = passed (postRows pl post) tt e in
-    record {
-      valid =
-          record {
-            sides = test-sides _ _ (not-false _ (row 1));
-            size = eqb-true _ _ (not-false _ (row 2));
-            inRange = ranged-all isHeight pl.heights (row 4);
-          };
-      post = ltb-true post (posts pl) (not-false _ (row 5));
-    }
+  module _ (e : nextVerdict pl post .code ≡ 0) where
+    pub post-sheet : SheetPasses pl
+    unfolding nextVerdict
+    post-sheet = let row = passed postRows tt e in (row 13, row 14)
 
-pub all-passed : (pl : Plot) (post : ℕ) → verdict (postRows pl post) .code ≡ 0 → verdict (postRows pl post) ≡ accepted
-all-passed pl post e = leads-passed (postRows pl post) [] tt e ∙ none-left
+    pub post-valid : PostOf pl post
+    unfolding nextVerdict
+    post-valid =
+        let row = passed postRows tt e in
+        record {
+          valid =
+              record {
+                sides = test-sides _ _ (not-false _ (row 1));
+                size = eqb-true _ _ (not-false _ (row 2));
+                inRange = ranged-all isHeight pl.heights (row 4);
+              };
+          post = ltb-true post (posts pl) (not-false _ (row 5));
+        }
+
+    pub all-passed : nextVerdict pl post ≡ accepted
+    unfolding nextVerdict
+    all-passed = leads-passed postRows [] tt e ∙ none-left
 
 module _ (pl : Plot) (d : Descent) (post run : ℕ) (list : List ℕ) where
   abbrev pub Outcome : Entries → List ℕ → Type 0
@@ -55,14 +64,14 @@ module _ (pl : Plot) (d : Descent) (post run : ℕ) (list : List ℕ) where
   abbrev lineRows : List Row
   lineRows = row7 pl post ∷ row8 d post run ∷ row9 entries list ∷ []
 
-  pub no-post : (a : Answer) → a ≡ verdict (postRows pl post) → (a .code ≡ 0 → ⊥)
+  pub no-post : (a : Answer) → a ≡ nextVerdict pl post → (a .code ≡ 0 → ⊥)
       → Outcome (record { code = a .code; place = a .place; count = 0 }) list
-  unfolding lineVerdict
+  unfolding nextVerdict lineVerdict
   no-post a e h = refused (a .code) (a .place) h (leads-refused (postRows pl post) lineRows tt (λ k. h (code e ∙ k)) ∙ sym e)
 
-  module _ (z : verdict (postRows pl post) .code ≡ 0) where
+  module _ (z : nextVerdict pl post .code ≡ 0) where
     rows-left : lineVerdict pl d post run list ≡ verdict lineRows
-    unfolding lineVerdict
+    unfolding nextVerdict lineVerdict
     rows-left = leads-passed (postRows pl post) lineRows tt z
 
     pub no-saddle : markAt pl post < 3 → Outcome (record { code = 7; place = 0; count = 0 }) list

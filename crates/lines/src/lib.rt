@@ -6,21 +6,23 @@ mod walk;
 use limits::post_verdict;
 use line::draw_line;
 use next::step::next_at;
+use settings::read_sheet;
 use surface::DOWN;
 use surface::Entries;
 use surface::Grid;
+use surface::HIGHEST_RULE;
 use surface::Next;
+use surface::Sheet;
 use surface::UP;
 ghost use mathlib.Core.Path.{_≡_};
-ghost use Rattle.surface.specs.Plot.{plot};
 ghost use Rattle.surface.specs.Lines.{toward};
-ghost use Rattle.surface.specs.Calls.{nextAnswer, nextDownAnswer, nextUpAnswer, thalwegAnswer, thalwegList, ridgeAnswer, ridgeList};
+ghost use Rattle.surface.specs.Calls.{plotSaid, plotBy, nextAnswer, nextDownAnswer, nextUpAnswer, thalwegAnswer, thalwegList, ridgeAnswer, ridgeList};
 
-// Next down, or next up, from a post.
-fn next_post(rows: u32, columns: u32, heights: &[i32], post: u32, up: bool) -> Next
-    ensures { λ r. ⌜ r ≡ nextAnswer (plot rows columns (now (heights .entry))) (toward up (plot rows columns (now (heights .entry)))) post ⌝ }
+// Next down, or next up, from a post, by what the sheet says.
+fn next_post(said: Sheet, rows: u32, columns: u32, heights: &[i32], post: u32, up: bool) -> Next
+    ensures { λ r. ⌜ r ≡ nextAnswer (plotSaid said rows columns (now (heights .entry))) (toward up (plotSaid said rows columns (now (heights .entry)))) post ⌝ }
 {
-    let refusal = post_verdict(rows, columns, heights, post);
+    let refusal = post_verdict(said, rows, columns, heights, post);
     if refusal.code != 0 {
         return Next {
             code: refusal.code,
@@ -31,6 +33,7 @@ fn next_post(rows: u32, columns: u32, heights: &[i32], post: u32, up: bool) -> N
     let grid = Grid {
         rows: rows as usize,
         columns: columns as usize,
+        highest: said.rule == HIGHEST_RULE,
     };
     Next {
         code: 0,
@@ -40,21 +43,22 @@ fn next_post(rows: u32, columns: u32, heights: &[i32], post: u32, up: bool) -> N
 }
 
 // Next down from a post: its lowest neighbour, the post itself at a pit, 65535 for the virtual pit.
-pub fn next_down(rows: u32, columns: u32, heights: &[i32], post: u32) -> Next
-    ensures { λ r. ⌜ r ≡ nextDownAnswer (plot rows columns (now (heights .entry))) post ⌝ }
+pub fn next_down(sheet: &[u8], rows: u32, columns: u32, heights: &[i32], post: u32) -> Next
+    ensures { λ r. ⌜ r ≡ nextDownAnswer (plotBy (now (sheet .entry)) rows columns (now (heights .entry))) post ⌝ }
 {
-    next_post(rows, columns, heights, post, DOWN)
+    next_post(read_sheet(sheet), rows, columns, heights, post, DOWN)
 }
 
 // Next up from a post: its highest neighbour, the post itself at a peak.
-pub fn next_up(rows: u32, columns: u32, heights: &[i32], post: u32) -> Next
-    ensures { λ r. ⌜ r ≡ nextUpAnswer (plot rows columns (now (heights .entry))) post ⌝ }
+pub fn next_up(sheet: &[u8], rows: u32, columns: u32, heights: &[i32], post: u32) -> Next
+    ensures { λ r. ⌜ r ≡ nextUpAnswer (plotBy (now (sheet .entry)) rows columns (now (heights .entry))) post ⌝ }
 {
-    next_post(rows, columns, heights, post, UP)
+    next_post(read_sheet(sheet), rows, columns, heights, post, UP)
 }
 
 // The water line of a saddle and one of its lower runs. Refused: the list stays as it was.
 pub fn thalweg(
+    sheet: &[u8],
     rows: u32,
     columns: u32,
     heights: &[i32],
@@ -62,14 +66,15 @@ pub fn thalweg(
     run: u32,
     line: &mut [u16],
 ) -> Entries
-    ensures { λ r. ⌜ r ≡ thalwegAnswer (plot rows columns (now (heights .entry))) post run (now (line .entry)) ⌝ }
-    ensures { λ _. ⌜ now (line .exit) ≡ thalwegList (plot rows columns (now (heights .entry))) post run (now (line .entry)) ⌝ }
+    ensures { λ r. ⌜ r ≡ thalwegAnswer (plotBy (now (sheet .entry)) rows columns (now (heights .entry))) post run (now (line .entry)) ⌝ }
+    ensures { λ _. ⌜ now (line .exit) ≡ thalwegList (plotBy (now (sheet .entry)) rows columns (now (heights .entry))) post run (now (line .entry)) ⌝ }
 {
-    draw_line(rows, columns, heights, post, run, DOWN, line)
+    draw_line(sheet, rows, columns, heights, post, run, DOWN, line)
 }
 
 // The crest line of a saddle and one of its upper runs. Refused: the list stays as it was.
 pub fn ridge(
+    sheet: &[u8],
     rows: u32,
     columns: u32,
     heights: &[i32],
@@ -77,8 +82,8 @@ pub fn ridge(
     run: u32,
     line: &mut [u16],
 ) -> Entries
-    ensures { λ r. ⌜ r ≡ ridgeAnswer (plot rows columns (now (heights .entry))) post run (now (line .entry)) ⌝ }
-    ensures { λ _. ⌜ now (line .exit) ≡ ridgeList (plot rows columns (now (heights .entry))) post run (now (line .entry)) ⌝ }
+    ensures { λ r. ⌜ r ≡ ridgeAnswer (plotBy (now (sheet .entry)) rows columns (now (heights .entry))) post run (now (line .entry)) ⌝ }
+    ensures { λ _. ⌜ now (line .exit) ≡ ridgeList (plotBy (now (sheet .entry)) rows columns (now (heights .entry))) post run (now (line .entry)) ⌝ }
 {
-    draw_line(rows, columns, heights, post, run, UP, line)
+    draw_line(sheet, rows, columns, heights, post, run, UP, line)
 }

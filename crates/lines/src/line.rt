@@ -5,8 +5,10 @@ use crate::walk::entries_of;
 use limits::post_verdict;
 use post::mark::mark_at;
 use post::ring::ring_at;
+use settings::read_sheet;
 use surface::Entries;
 use surface::Grid;
+use surface::HIGHEST_RULE;
 use surface::SADDLE;
 ghost use mathlib.Core.Path.{_≡_};
 ghost use mathlib.Core.List.{_∷_};
@@ -14,9 +16,9 @@ ghost use Prim.Native.Nat.{_≤_};
 ghost use lib.Dec.{ltb};
 ghost use lib.ListN.{length};
 ghost use lib.Seq.{sets};
-ghost use Rattle.surface.specs.Plot.{plot, plotOf, posts};
+ghost use Rattle.surface.specs.Plot.{plotOf, posts};
 ghost use Rattle.surface.specs.Lines.{toward};
-ghost use Rattle.surface.specs.Calls.{lineAnswer, lineList};
+ghost use Rattle.surface.specs.Calls.{plotBy, lineAnswer, lineList};
 ghost use Rattle.lines.specs.Walks.{WalkOf, HasRoom, path};
 
 // Whether a list of length `room` takes a saddle and a walk's posts. A list longer than the heights takes every line, so that nothing is counted.
@@ -66,6 +68,7 @@ fn refused(code: u32, place: u32) -> Entries
 
 // The line of a post and a run, downward, or upward where `up`.
 pub(crate) fn draw_line(
+    sheet: &[u8],
     rows: u32,
     columns: u32,
     heights: &[i32],
@@ -74,16 +77,18 @@ pub(crate) fn draw_line(
     up: bool,
     line: &mut [u16],
 ) -> Entries
-    ensures { λ r. ⌜ r ≡ lineAnswer (plot rows columns (now (heights .entry))) (toward up (plot rows columns (now (heights .entry)))) post run (now (line .entry)) ⌝ }
-    ensures { λ _. ⌜ now (line .exit) ≡ lineList (plot rows columns (now (heights .entry))) (toward up (plot rows columns (now (heights .entry)))) post run (now (line .entry)) ⌝ }
+    ensures { λ r. ⌜ r ≡ lineAnswer (plotBy (now (sheet .entry)) rows columns (now (heights .entry))) (toward up (plotBy (now (sheet .entry)) rows columns (now (heights .entry)))) post run (now (line .entry)) ⌝ }
+    ensures { λ _. ⌜ now (line .exit) ≡ lineList (plotBy (now (sheet .entry)) rows columns (now (heights .entry))) (toward up (plotBy (now (sheet .entry)) rows columns (now (heights .entry)))) post run (now (line .entry)) ⌝ }
 {
-    let refusal = post_verdict(rows, columns, heights, post);
+    let said = read_sheet(sheet);
+    let refusal = post_verdict(said, rows, columns, heights, post);
     if refusal.code != 0 {
         return refused(refusal.code, refusal.place);
     }
     let grid = Grid {
         rows: rows as usize,
         columns: columns as usize,
+        highest: said.rule == HIGHEST_RULE,
     };
     let p = post as usize;
     if mark_at(heights, grid, p) < SADDLE {

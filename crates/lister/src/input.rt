@@ -1,5 +1,5 @@
-// Reading standard input.
-use libc::STDIN_FILENO;
+// Reading standard input, and the settings sheet beside it.
+use libc::ENOENT;
 ghost use Prim.Native.Nat.{_≤_};
 ghost use lib.ListN.{length};
 
@@ -9,13 +9,13 @@ pub(crate) struct Input {
     pub(crate) failed: bool,
 }
 
-// Reads to the end of the input, or until the list is full or a read fails.
-pub(crate) fn read_input(file: &mut [u8]) -> Input
+// Reads to the end of what `from` reads, or until the list is full or a read fails.
+pub(crate) fn read_input(from: i32, file: &mut [u8]) -> Input
     ensures { λ r. ⌜ r .bytes ≤ length (now (file .exit)) ⌝ }
 {
     let mut bytes = 0;
     while bytes < file.len() {
-        let got = libc::read(STDIN_FILENO, &mut file[bytes..]);
+        let got = libc::read(from, &mut file[bytes..]);
         if got <= 0 {
             return Input {
                 bytes,
@@ -28,4 +28,21 @@ pub(crate) fn read_input(file: &mut [u8]) -> Input
         bytes,
         failed: false,
     }
+}
+
+// Reads the settings sheet, plot.set in the folder that the program runs in. Only a file that is not there is no sheet: a plot that was drawn by another
+// rule than the sheet's would be a wrong one.
+pub(crate) fn read_sheet(sheet: &mut [u8]) -> Input
+    ensures { λ r. ⌜ r .bytes ≤ length (now (sheet .exit)) ⌝ }
+{
+    let from = os::open_read(b"plot.set");
+    if from < 0 {
+        return Input {
+            bytes: 0,
+            failed: os::errno() != ENOENT,
+        };
+    }
+    let input = read_input(from, sheet);
+    libc::close(from);
+    input
 }

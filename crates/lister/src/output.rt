@@ -32,8 +32,9 @@ fn print_posts(heights: &[i32], grid: Grid, dales: &[u16], hills: &[u16], buffer
     true
 }
 
-// Prints the listing of a file, with lists lent for its plot.
+// Prints the listing of a sheet and a file, with lists lent for its plot.
 fn print_listing(
+    sheet: &[u8],
     file: &[u8],
     heights: &mut [i32],
     marks: &mut [u8],
@@ -43,7 +44,7 @@ fn print_listing(
 ) -> bool
     requires { ⌜ Lent (now file) (now heights) (now marks) (now dales) (now hills) × (postRoom ≤ length (now buffer)) ⌝ }
 {
-    let begun = put_first(file, heights, marks, dales, hills, buffer);
+    let begun = put_first(sheet, file, heights, marks, dales, hills, buffer);
     let bytes = begun.bytes;
     let grid = begun.grid;
     let written = io::write_all(STDOUT_FILENO, &buffer[..bytes]);
@@ -53,8 +54,8 @@ fn print_listing(
     print_posts(heights, grid, dales, hills, buffer)
 }
 
-// Prints the listing of a file. Its plot may be as large as any.
-pub(crate) fn print_file(file: &[u8]) -> bool {
+// Prints the listing of a sheet and a file. Its plot may be as large as any.
+pub(crate) fn print_file(sheet: &[u8], file: &[u8]) -> bool {
     let mut heights = [0i32; MAX_POSTS];
     let mut marks = [0u8; MAX_POSTS];
     let mut dales = [0u16; MAX_POSTS];
@@ -62,6 +63,7 @@ pub(crate) fn print_file(file: &[u8]) -> bool {
     let mut buffer = [0u8; OUTPUT_ROOM];
     let posts = posts_in(file);
     print_listing(
+        sheet,
         file,
         &mut heights[..posts],
         &mut marks[..posts],

@@ -2,17 +2,19 @@
 use Prim.Native.Nat.{ℕ, _≤_}
 use native.Mathlib.Omega.{arith}
 use mathlib.Core.Path.{_≡_, refl, sym, _∙_, ap}
-use mathlib.Core.Bool.{_&&_}
+use mathlib.Core.Bool.{Bool, _&&_}
 use mathlib.Core.List.{List, [], _∷_, _++_}
 use borrow.Author.Tests.{ne-eqb}
+use lib.Dec.{eqb}
 use lib.IntN.{ℤ, pos}
 use lib.ListN.{length, replicate, length-replicate}
-use Rattle.surface.specs.Plot.{Plot, plot, posts, maxSide, isSide, Valid}
+use Rattle.surface.specs.Plot.{Plot, ruled, posts, maxSide, isSide, Valid}
 use Rattle.surface.specs.Refusals.{verdict, readVerdict}
-use Rattle.surface.specs.Calls.{readAnswer, readHeights, surveyAnswer, partsDales, partsHills}
-use Rattle.surface.specs.Lister.{decimal, textLine, headLine, plotText, refusedText, listing}
+use Rattle.surface.specs.Calls.{sheetSays, plotBy, readAnswer, readHeights, surveyAnswer, partsDales, partsHills}
+use Rattle.surface.specs.Lister.{decimal, textLine, headLine, plotText, refusedText, fileListing, listing}
 use Rattle.surface.specs.declared.Answer.{Answer}
 use Rattle.surface.specs.declared.Counts.{Counts}
+use Rattle.surface.specs.declared.Sheet.{Sheet}
 use Rattle.surface.specs.declared.Size.{Size}
 use Rattle.surface.proofs.General.Bools.{either}
 use Rattle.surface.proofs.OfCalls.Accepted.{valid-survey, valid-parts, rowsIn, columnsIn, postsIn, read-valid}
@@ -23,7 +25,8 @@ use Rattle.survey_file.specs.Layout.{plotPosts}
 use Rattle.parts.proofs.Outcome.{parts-filled}
 use Rattle.listing.specs.Wrote.{lineRoom, Wrote}
 use Rattle.listing.specs.Lines.{linesFrom, Known}
-use Rattle.listing.specs.First.{Lent, Begins}
+use Rattle.listing.specs.First.{Lent, Refuses, Begins}
+use Rattle.listing.specs.declared.first.Begun.{Begun}
 use Rattle.listing.proofs.Writing.{front}
 use Rattle.listing.proofs.Chunks.{from-zero}
 
@@ -40,16 +43,17 @@ module _ (file : List ℕ) (hs : List ℤ) (h : length hs ≡ plotPosts file) wh
       (λ e. let k : length hs ≡ length (fresh file) = h ∙ rw (e, length-replicate) in rw k)
       (λ e. rw e)
 
-  refusal : (readAnswer file hs .code ≡ 0 → ⊥) → refusedText (readAnswer file hs .code) (readAnswer file hs .place) ≡ listing file
-  unfolding listing readAnswer
-  refusal n = rw (← same-read, ne-eqb (readVerdict file hs .code) 0 n)
+  refusal : (sheet : List ℕ) → (readAnswer file hs .code ≡ 0 → ⊥) → refusedText (readAnswer file hs .code) (readAnswer file hs .place) ≡ fileListing sheet file
+  unfolding fileListing readAnswer
+  refusal sheet n = rw (← same-read, ne-eqb (readVerdict file hs .code) 0 n)
 
-  module _ (e : readAnswer file hs .code ≡ 0) where
+  -- the plot, by the rule that the sheet means
+  module _ (sheet : List ℕ) (highest : Bool) (means : (rows columns : ℕ) (heights : List ℤ) → plotBy sheet rows columns heights ≡ ruled highest rows columns heights) (e : readAnswer file hs .code ≡ 0) where
     abbrev read : Plot
-    read = plot (readAnswer file hs .rows) (readAnswer file hs .columns) (readHeights file hs)
+    read = ruled highest (readAnswer file hs .rows) (readAnswer file hs .columns) (readHeights file hs)
 
     valid : Valid read
-    valid = read-plot file hs e
+    valid = let v = read-plot file hs e in record { sides = v .sides; size = v .size; inRange = v .inRange }
 
     accepted : readVerdict file hs .code ≡ 0
     accepted = sym (read-code file hs) ∙ e
@@ -60,9 +64,9 @@ module _ (file : List ℕ) (hs : List ℤ) (h : length hs ≡ plotPosts file) wh
     alike : length hs ≡ length (fresh file)
     alike = read-valid file hs accepted .room ∙ sym (rw length-replicate)
 
-    whole : plotText read ≡ listing file
-    unfolding listing
-    whole = let f = read-fresh file hs (fresh file) alike in rw (← f .0, e, ← f .1 e)
+    whole : plotText read ≡ fileListing sheet file
+    unfolding fileListing
+    whole = let f = read-fresh file hs (fresh file) alike in rw (← f .0, e, ← f .1 e, means)
 
     -- the counts are those of the marks
     head : (marks : List ℕ) → length marks ≡ posts read
@@ -70,51 +74,67 @@ module _ (file : List ℕ) (hs : List ℤ) (h : length hs ≡ plotPosts file) wh
         textLine 78 (decimal read.rows ∷ decimal read.columns ∷ decimal (a .peaks) ∷ decimal (a .pits) ∷ decimal (a .saddles) ∷ []) ≡ headLine read
     unfolding headLine
     head marks k =
-        let v = ap (λ (a : Answer). a .code) (valid-survey read valid marks k) in
+        let v = ap (λ (a : Answer). a .code) (valid-survey read valid (refl, refl) marks k) in
         rw (survey-served read marks v, survey-filled read marks v)
 
     known : (dales hills : List ℕ) → length dales ≡ posts read → length hills ≡ posts read
         → Known read (partsDales read dales hills) (partsHills read dales hills)
     known dales hills k m =
-        let f = parts-filled read dales hills (ap (λ (a : Answer). a .code) (valid-parts read valid dales hills k m)) in
+        let f = parts-filled read dales hills (ap (λ (a : Answer). a .code) (valid-parts read valid (refl, refl) dales hills k m)) in
         record { valid = valid; dalesKnown = sym (f .0); hillsKnown = sym (f .1) }
 
-    left : headLine read ++ linesFrom read 0 (posts read) ≡ listing file
+    left : headLine read ++ linesFrom read 0 (posts read) ≡ fileListing sheet file
     unfolding plotText
     left = rw (from-zero read (posts read)) whole
 
--- the outcome, refused and accepted
-module _ (file : List ℕ) (hs : List ℤ) (h : length hs ≡ plotPosts file) (a : Size) (isAnswer : a ≡ readAnswer file hs) where
-  pub begins-refused : (after : List ℤ) (dales hills l l₁ : List ℕ) (bytes : ℕ) → (a .code ≡ 0 → ⊥) → lineRoom ≤ length l
-      → Wrote lineRoom l l₁ 0 (refusedText (a .code) (a .place)) bytes
-      → Begins file after dales hills l₁ (record { grid = record { rows = 0; columns = 0 }; bytes = bytes })
-  begins-refused after dales hills l l₁ bytes n k w =
-      let f = front l l₁ (refusedText (a .code) (a .place)) bytes k w in
-      let m : readAnswer file hs .code ≡ 0 → ⊥ = rw isAnswer at n in
-      let r : refusedText (a .code) (a .place) ≡ listing file = rw isAnswer (refusal file hs h m) in
-      record { room = f .2; refused = λ _. f .0 ∙ r; text = λ z. absurd (z refl); known = λ z. absurd (z refl) }
+-- what a sheet means that is not refused
+pub said-means : (sheet : List ℕ) (said : Sheet) → said ≡ sheetSays sheet → said .code ≡ 0 → (rows columns : ℕ) (heights : List ℤ)
+    → plotBy sheet rows columns heights ≡ ruled (eqb (said .rule) 2) rows columns heights
+said-means sheet said i e rows columns heights = rw (← i) (rw e)
+
+-- a refused sheet, and one that is not
+pub sheet-refuses : (sheet file : List ℕ) (said : Sheet) → said ≡ sheetSays sheet → (said .code ≡ 0 → ⊥) → refusedText (said .code) (said .place) ≡ listing sheet file
+unfolding listing
+sheet-refuses sheet file said i n = rw (← i) (rw (ne-eqb (said .code) 0 n))
+
+pub sheet-passes : (sheet file : List ℕ) (said : Sheet) → said ≡ sheetSays sheet → said .code ≡ 0 → fileListing sheet file ≡ listing sheet file
+unfolding listing
+sheet-passes sheet file said i e = rw (← i) (rw e)
+
+-- a refusal is a whole listing
+pub begins-refused : {whole buffer : List ℕ} {r : Begun} (hs : List ℤ) (dales hills : List ℕ) (text : List ℕ) → text ≡ whole → Refuses text buffer r
+    → Begins whole hs dales hills buffer r
+begins-refused hs dales hills text e f =
+    record { room = f .room; refused = λ _. f .bytes ∙ e; text = λ z. absurd (z (f .rows)); known = λ z. absurd (z (f .rows)) }
+
+-- the outcome of reading, refused and accepted
+module _ (sheet file : List ℕ) (hs : List ℤ) (h : length hs ≡ plotPosts file) (a : Size) (isAnswer : a ≡ readAnswer file hs) where
+  pub file-refuses : (a .code ≡ 0 → ⊥) → refusedText (a .code) (a .place) ≡ fileListing sheet file
+  file-refuses n = let m : readAnswer file hs .code ≡ 0 → ⊥ = rw isAnswer at n in rw isAnswer (refusal file hs h sheet m)
 
   pub small-sides : a .code ≡ 0 → (a .rows ≤ maxSide) × (a .columns ≤ maxSide)
-  small-sides e = rw isAnswer (let s = valid file hs h (rw isAnswer at e) .sides in (s .low, s .narrow))
+  small-sides e = rw isAnswer (let s = read-plot file hs (rw isAnswer at e) .sides in (s .low, s .narrow))
 
-  pub begins-accepted : (after : List ℤ) (marks dales hills dales′ hills′ l l₁ : List ℕ) (counts : Counts) (bytes : ℕ)
+  pub begins-accepted : (highest : Bool) → ((rows columns : ℕ) (heights : List ℤ) → plotBy sheet rows columns heights ≡ ruled highest rows columns heights)
+      → (after : List ℤ) (marks dales hills dales′ hills′ l l₁ : List ℕ) (counts : Counts) (bytes : ℕ)
       → a .code ≡ 0
       → after ≡ readHeights file hs
-      → counts ≡ surveyAnswer (plot (a .rows) (a .columns) after) marks
-      → dales′ ≡ partsDales (plot (a .rows) (a .columns) after) dales hills
-      → hills′ ≡ partsHills (plot (a .rows) (a .columns) after) dales hills
+      → counts ≡ surveyAnswer (plotBy sheet (a .rows) (a .columns) after) marks
+      → dales′ ≡ partsDales (plotBy sheet (a .rows) (a .columns) after) dales hills
+      → hills′ ≡ partsHills (plotBy sheet (a .rows) (a .columns) after) dales hills
       → Lent file hs marks dales hills
       → lineRoom ≤ length l
       → Wrote lineRoom l l₁ 0 (textLine 78 (decimal (a .rows) ∷ decimal (a .columns) ∷ decimal (counts .peaks) ∷ decimal (counts .pits) ∷ decimal (counts .saddles) ∷ [])) bytes
-      → Begins file after dales′ hills′ l₁ (record { grid = record { rows = a .rows; columns = a .columns }; bytes = bytes })
-  begins-accepted after marks dales hills dales′ hills′ l l₁ counts bytes e ea ec ed eh r k w =
+      → Begins (fileListing sheet file) after dales′ hills′ l₁ (record { grid = record { rows = a .rows; columns = a .columns; highest = highest }; bytes = bytes })
+  begins-accepted highest means after marks dales hills dales′ hills′ l l₁ counts bytes e ea ec ed eh r k w =
       let c : readAnswer file hs .code ≡ 0 = rw isAnswer at e in
-      let f = front l l₁ _ bytes k (rw (ec, ea, isAnswer) at w) in
-      let size : plotPosts file ≡ posts (read file hs h c) = sym h ∙ size file hs h c in
-      rw (ed, eh, ea, isAnswer)
+      let plotted = means (a .rows) (a .columns) after in
+      let f = front l l₁ _ bytes k (rw (ec, plotted, ea, isAnswer) at w) in
+      let size : plotPosts file ≡ posts (read file hs h sheet highest means c) = sym h ∙ size file hs h sheet highest means c in
+      rw (ed, eh, plotted, ea, isAnswer)
       (record {
         room = f .2;
-        refused = λ z. absurd (omega (arith, z, valid file hs h c .sides .tall));
-        text = λ _. rw (f .0 ∙ head file hs h c marks (r .marksSize ∙ size)) (left file hs h c);
-        known = λ _. known file hs h c dales hills (r .dalesSize ∙ size) (r .hillsSize ∙ size);
+        refused = λ z. absurd (omega (arith, z, valid file hs h sheet highest means c .sides .tall));
+        text = λ _. rw (f .0 ∙ head file hs h sheet highest means c marks (r .marksSize ∙ size)) (left file hs h sheet highest means c);
+        known = λ _. known file hs h sheet highest means c dales hills (r .dalesSize ∙ size) (r .hillsSize ∙ size);
       })

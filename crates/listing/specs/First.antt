@@ -5,7 +5,6 @@ use mathlib.Core.List.{List, _++_}
 use lib.IntN.{ℤ}
 use lib.ListN.{length, take}
 use Rattle.surface.specs.Plot.{plotOf, posts}
-use Rattle.surface.specs.Lister.{listing}
 use Rattle.survey_file.specs.Layout.{plotPosts}
 use Rattle.listing.specs.Lines.{linesFrom, Known}
 use Rattle.listing.specs.declared.first.Begun.{Begun}
@@ -17,10 +16,15 @@ pub record Lent (file : List ℕ) (heights : List ℤ) (marks dales hills : List
   pub dalesSize : length dales ≡ plotPosts file
   pub hillsSize : length hills ≡ plotPosts file
 
--- where there are no rows, the first bytes are the whole listing; else the lines of all posts are what is left of it, and dales and hills are known
-pub record Begins (file : List ℕ) (hs : List ℤ) (dales hills buffer : List ℕ) (r : Begun) : Type 0 where
+-- the first bytes are this text, and there are no rows
+pub record Refuses (text buffer : List ℕ) (r : Begun) : Type 0 where
   pub room : r .bytes ≤ length buffer
-  pub refused : r .grid .rows ≡ 0 → take (r .bytes) buffer ≡ listing file
-  pub text : (r .grid .rows ≡ 0 → ⊥)
-      → take (r .bytes) buffer ++ linesFrom (plotOf (r .grid) hs) 0 (posts (plotOf (r .grid) hs)) ≡ listing file
+  pub bytes : take (r .bytes) buffer ≡ text
+  pub rows : r .grid .rows ≡ 0
+
+-- where there are no rows, the first bytes are the whole listing; else the lines of all posts are what is left of it, and dales and hills are known
+pub record Begins (whole : List ℕ) (hs : List ℤ) (dales hills buffer : List ℕ) (r : Begun) : Type 0 where
+  pub room : r .bytes ≤ length buffer
+  pub refused : r .grid .rows ≡ 0 → take (r .bytes) buffer ≡ whole
+  pub text : (r .grid .rows ≡ 0 → ⊥) → take (r .bytes) buffer ++ linesFrom (plotOf (r .grid) hs) 0 (posts (plotOf (r .grid) hs)) ≡ whole
   pub known : (r .grid .rows ≡ 0 → ⊥) → Known (plotOf (r .grid) hs) dales hills

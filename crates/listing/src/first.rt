@@ -2,22 +2,77 @@
 use crate::text::put_head;
 use crate::text::put_refused;
 use parts::dales_and_hills;
+use settings::read_sheet;
 use surface::Grid;
+use surface::HIGHEST_RULE;
+use surface::Sheet;
 use survey::survey;
 use survey_file::read_survey;
+ghost use mathlib.Core.Path.{_≡_};
 ghost use Prim.Native.Nat.{_≤_};
 ghost use lib.ListN.{length};
+ghost use Rattle.surface.specs.Calls.{sheetSays};
+ghost use Rattle.surface.specs.Lister.{refusedText, fileListing, listing};
 ghost use Rattle.listing.specs.Wrote.{lineRoom};
-ghost use Rattle.listing.specs.First.{Lent, Begins};
+ghost use Rattle.listing.specs.First.{Lent, Refuses, Begins};
 
-// The plot's sides, 0 and 0 where the file was refused, and how many bytes are written.
+// The plot, with 0 rows and columns where the sheet or the file was refused, and how many bytes are written.
 pub struct Begun {
     pub grid: Grid,
     pub bytes: usize,
 }
 
-// Writes the N line, or the E line where the file is refused. The lists are as long as the plot has posts.
+// Writes the E line of a refusal.
+fn put_refusal(code: u32, place: u32, out: &mut [u8]) -> Begun
+    requires { ⌜ lineRoom ≤ length (now out) ⌝ }
+    ensures { λ r. ⌜ Refuses (refusedText code place) (now (out .exit)) r ⌝ }
+{
+    Begun {
+        grid: Grid {
+            rows: 0,
+            columns: 0,
+            highest: false,
+        },
+        bytes: put_refused(out, 0, code, place),
+    }
+}
+
+// Writes the N line, or the E line where the file is refused. The sheet says this, and is not refused.
+fn put_file(
+    sheet: &[u8],
+    said: Sheet,
+    file: &[u8],
+    heights: &mut [i32],
+    marks: &mut [u8],
+    dales: &mut [u16],
+    hills: &mut [u16],
+    out: &mut [u8],
+) -> Begun
+    requires { ⌜ Lent (now file) (now heights) (now marks) (now dales) (now hills) × (lineRoom ≤ length (now out)) × (said ≡ sheetSays (now sheet)) × (said .code ≡ 0) ⌝ }
+    ensures { λ r. ⌜ Begins (fileListing (now (sheet .entry)) (now (file .entry))) (now (heights .exit)) (now (dales .exit)) (now (hills .exit)) (now (out .exit)) r ⌝ }
+{
+    let size = read_survey(file, heights);
+    let code = size.code;
+    if code != 0 {
+        return put_refusal(code, size.place, out);
+    }
+    let rows = size.rows;
+    let columns = size.columns;
+    let sums = survey(sheet, rows, columns, heights, marks);
+    dales_and_hills(sheet, rows, columns, heights, dales, hills);
+    Begun {
+        grid: Grid {
+            rows: rows as usize,
+            columns: columns as usize,
+            highest: said.rule == HIGHEST_RULE,
+        },
+        bytes: put_head(out, 0, rows, columns, sums.peaks, sums.pits, sums.saddles),
+    }
+}
+
+// Writes the N line, or the E line where the sheet or the file is refused. The lists are as long as the plot has posts.
 pub fn put_first(
+    sheet: &[u8],
     file: &[u8],
     heights: &mut [i32],
     marks: &mut [u8],
@@ -26,28 +81,12 @@ pub fn put_first(
     out: &mut [u8],
 ) -> Begun
     requires { ⌜ Lent (now file) (now heights) (now marks) (now dales) (now hills) × (lineRoom ≤ length (now out)) ⌝ }
-    ensures { λ r. ⌜ Begins (now (file .entry)) (now (heights .exit)) (now (dales .exit)) (now (hills .exit)) (now (out .exit)) r ⌝ }
+    ensures { λ r. ⌜ Begins (listing (now (sheet .entry)) (now (file .entry))) (now (heights .exit)) (now (dales .exit)) (now (hills .exit)) (now (out .exit)) r ⌝ }
 {
-    let size = read_survey(file, heights);
-    let code = size.code;
+    let said = read_sheet(sheet);
+    let code = said.code;
     if code != 0 {
-        return Begun {
-            grid: Grid {
-                rows: 0,
-                columns: 0,
-            },
-            bytes: put_refused(out, 0, code, size.place),
-        };
+        return put_refusal(code, said.place, out);
     }
-    let rows = size.rows;
-    let columns = size.columns;
-    let sums = survey(rows, columns, heights, marks);
-    dales_and_hills(rows, columns, heights, dales, hills);
-    Begun {
-        grid: Grid {
-            rows: rows as usize,
-            columns: columns as usize,
-        },
-        bytes: put_head(out, 0, rows, columns, sums.peaks, sums.pits, sums.saddles),
-    }
+    put_file(sheet, said, file, heights, marks, dales, hills, out)
 }

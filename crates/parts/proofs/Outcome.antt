@@ -7,34 +7,30 @@ use borrow.Author.Tests.{eqb-true, ne-eqb, not-false}
 use lib.ListN.{length}
 use Rattle.surface.specs.Plot.{Plot, posts, isHeight}
 use Rattle.surface.specs.Lines.{dalesOf, hillsOf}
-use Rattle.surface.specs.Refusals.{Row, verdict, rowOf, isNot, row1, row2, row4, partsVerdict}
+use Rattle.surface.specs.Refusals.{verdict, rowOf, isNot, row4, leading, partsVerdict}
 use Rattle.surface.specs.Calls.{partsDales, partsHills}
 use Rattle.surface.proofs.General.Bools.{or-left, or-right}
 use Rattle.surface.proofs.General.FirstNot.{ranged-all}
 use Rattle.surface.proofs.AnyOrder.Grid.{test-sides}
 use Rattle.surface.proofs.OfCalls.Verdicts.{passed, row-holds, row-passed, leads-refused, leads-passed}
-use Rattle.surface.proofs.OfCalls.Accepted.{plot-sized}
+use Rattle.surface.proofs.OfCalls.Accepted.{SheetPasses, led-sized}
 use Rattle.parts.specs.Filled.{ForParts}
 
 module _ (pl : Plot) (dales hills : List ℕ) where
-  -- rows 1 and 2
-  abbrev sized : List Row
-  sized = row1 pl.rows pl.columns ∷ row2 pl ∷ []
-
-  pub size-refused : (verdict sized .code ≡ 0 → ⊥) → partsVerdict pl dales hills ≡ verdict sized
+  pub size-refused : (verdict (leading pl) .code ≡ 0 → ⊥) → partsVerdict pl dales hills ≡ verdict (leading pl)
   unfolding partsVerdict
-  size-refused h = leads-refused sized _ tt h
+  size-refused h = leads-refused (leading pl) _ tt h
 
-  -- where they pass: row 3, by the number of heights
-  module _ (z : verdict sized .code ≡ 0) where
+  -- where the rows that lead pass: row 3, by the number of heights
+  module _ (z : verdict (leading pl) .code ≡ 0) where
     abbrev unequal : Bool
     unequal = isNot dales (length pl.heights) || isNot hills (length pl.heights)
 
     size-passed : partsVerdict pl dales hills ≡ verdict (rowOf 3 unequal ∷ row4 isHeight pl.heights ∷ [])
     unfolding partsVerdict
     size-passed =
-        leads-passed sized _ tt z
-        ∙ ap (λ (n : ℕ). verdict (rowOf 3 (isNot dales n || isNot hills n) ∷ row4 isHeight pl.heights ∷ [])) (sym (plot-sized pl z .1))
+        leads-passed (leading pl) _ tt z
+        ∙ ap (λ (n : ℕ). verdict (rowOf 3 (isNot dales n || isNot hills n) ∷ row4 isHeight pl.heights ∷ [])) (sym (led-sized pl z .1))
 
     pub lists-refused : unequal ≡ true → partsVerdict pl dales hills ≡ record { code = 3; place = 0 }
     lists-refused h = size-passed ∙ row-holds _ _ h
@@ -42,7 +38,11 @@ module _ (pl : Plot) (dales hills : List ℕ) where
     pub lists-passed : unequal ≡ false → partsVerdict pl dales hills ≡ verdict (row4 isHeight pl.heights ∷ [])
     lists-passed h = size-passed ∙ row-passed _ _ h
 
-  -- the call is accepted of a plot and two lists of its size
+  -- the call is accepted of a plot whose sheet is not bad and two lists of its size
+  pub parts-sheet : partsVerdict pl dales hills .code ≡ 0 → SheetPasses pl
+  unfolding partsVerdict
+  parts-sheet e = let row = passed _ tt e in (row 13, row 14)
+
   pub parts-valid : partsVerdict pl dales hills .code ≡ 0 → ForParts pl dales hills
   unfolding partsVerdict
   parts-valid e =

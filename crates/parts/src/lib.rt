@@ -5,24 +5,33 @@ mod paths;
 
 use fill::fill_nexts;
 use limits::heights_verdict;
-use limits::plot_verdict;
+use limits::lead_verdict;
 use paths::shorten;
+use settings::read_sheet;
 use surface::Answer;
 use surface::DOWN;
 use surface::Grid;
+use surface::HIGHEST_RULE;
+use surface::Sheet;
 use surface::UP;
 ghost use mathlib.Core.Path.{_≡_};
-ghost use Rattle.surface.specs.Plot.{plot};
 ghost use Rattle.surface.specs.Refusals.{partsVerdict};
-ghost use Rattle.surface.specs.Calls.{partsAnswer, partsDales, partsHills};
+ghost use Rattle.surface.specs.Calls.{plotSaid, plotBy, partsAnswer, partsDales, partsHills};
 
-// What the call answers: rows 1, 2, 3 and 4 of the table, in that order.
-fn verdict(rows: u32, columns: u32, heights: &[i32], dales: &[u16], hills: &[u16]) -> Answer
-    ensures { λ r. ⌜ r ≡ partsVerdict (plot rows columns (now (heights .entry))) (now (dales .entry)) (now (hills .entry)) ⌝ }
+// What the call answers: rows 13, 14 and 1 to 4 of the table.
+fn verdict(
+    said: Sheet,
+    rows: u32,
+    columns: u32,
+    heights: &[i32],
+    dales: &[u16],
+    hills: &[u16],
+) -> Answer
+    ensures { λ r. ⌜ r ≡ partsVerdict (plotSaid said rows columns (now (heights .entry))) (now (dales .entry)) (now (hills .entry)) ⌝ }
 {
-    let size = plot_verdict(rows, columns, heights);
-    if size.code != 0 {
-        return size;
+    let lead = lead_verdict(said, rows, columns, heights);
+    if lead.code != 0 {
+        return lead;
     }
     let posts = heights.len();
     if (dales.len() != posts) | (hills.len() != posts) {
@@ -33,23 +42,26 @@ fn verdict(rows: u32, columns: u32, heights: &[i32], dales: &[u16], hills: &[u16
 
 // Fills the lists with the names of every post's dale and hill. Refused: the lists stay as they were.
 pub fn dales_and_hills(
+    sheet: &[u8],
     rows: u32,
     columns: u32,
     heights: &[i32],
     dales: &mut [u16],
     hills: &mut [u16],
 ) -> Answer
-    ensures { λ r. ⌜ r ≡ partsAnswer (plot rows columns (now (heights .entry))) (now (dales .entry)) (now (hills .entry)) ⌝ }
-    ensures { λ _. ⌜ now (dales .exit) ≡ partsDales (plot rows columns (now (heights .entry))) (now (dales .entry)) (now (hills .entry)) ⌝ }
-    ensures { λ _. ⌜ now (hills .exit) ≡ partsHills (plot rows columns (now (heights .entry))) (now (dales .entry)) (now (hills .entry)) ⌝ }
+    ensures { λ r. ⌜ r ≡ partsAnswer (plotBy (now (sheet .entry)) rows columns (now (heights .entry))) (now (dales .entry)) (now (hills .entry)) ⌝ }
+    ensures { λ _. ⌜ now (dales .exit) ≡ partsDales (plotBy (now (sheet .entry)) rows columns (now (heights .entry))) (now (dales .entry)) (now (hills .entry)) ⌝ }
+    ensures { λ _. ⌜ now (hills .exit) ≡ partsHills (plotBy (now (sheet .entry)) rows columns (now (heights .entry))) (now (dales .entry)) (now (hills .entry)) ⌝ }
 {
-    let answer = verdict(rows, columns, heights, dales, hills);
+    let said = read_sheet(sheet);
+    let answer = verdict(said, rows, columns, heights, dales, hills);
     if answer.code != 0 {
         return answer;
     }
     let grid = Grid {
         rows: rows as usize,
         columns: columns as usize,
+        highest: said.rule == HIGHEST_RULE,
     };
     fill_nexts(heights, grid, dales, hills);
     shorten(dales, DOWN);

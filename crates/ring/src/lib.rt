@@ -2,33 +2,42 @@
 mod codes;
 
 use codes::put_codes;
-use limits::plot_verdict;
+use limits::lead_verdict;
 use limits::post_verdict;
 use post::mark::mark_at;
+use settings::read_sheet;
 use surface::Answer;
 use surface::Grid;
+use surface::HIGHEST_RULE;
 use surface::PIT;
 use surface::RING_LENGTH;
 use surface::RingMark;
 use surface::SADDLE;
+use surface::Sheet;
 ghost use mathlib.Core.Path.{_≡_};
-ghost use Rattle.surface.specs.Plot.{plot};
 ghost use Rattle.surface.specs.Flags.{runsFor};
 ghost use Rattle.surface.specs.Refusals.{ringVerdict};
-ghost use Rattle.surface.specs.Calls.{ringAnswer, ringList};
+ghost use Rattle.surface.specs.Calls.{plotSaid, plotBy, ringAnswer, ringList};
 
-// Rows 1 to 5 of the table.
-fn ring_verdict(rows: u32, columns: u32, heights: &[i32], post: u32, ring: &[u8]) -> Answer
-    ensures { λ r. ⌜ r ≡ ringVerdict (plot rows columns (now (heights .entry))) post (now (ring .entry)) ⌝ }
+// Rows 13, 14 and 1 to 5 of the table.
+fn ring_verdict(
+    said: Sheet,
+    rows: u32,
+    columns: u32,
+    heights: &[i32],
+    post: u32,
+    ring: &[u8],
+) -> Answer
+    ensures { λ r. ⌜ r ≡ ringVerdict (plotSaid said rows columns (now (heights .entry))) post (now (ring .entry)) ⌝ }
 {
-    let size = plot_verdict(rows, columns, heights);
-    if size.code != 0 {
-        return size;
+    let lead = lead_verdict(said, rows, columns, heights);
+    if lead.code != 0 {
+        return lead;
     }
     if ring.len() != RING_LENGTH {
         return Answer { code: 3, place: 0 };
     }
-    post_verdict(rows, columns, heights, post)
+    post_verdict(said, rows, columns, heights, post)
 }
 
 // The lower runs of a post that has this mark.
@@ -42,11 +51,19 @@ fn runs_for(mark: u8) -> u32
 }
 
 // Gives k and the mark of a post, and writes how each member of its ring stands to it. Refused: the list stays as it was.
-pub fn ring(rows: u32, columns: u32, heights: &[i32], post: u32, ring: &mut [u8]) -> RingMark
-    ensures { λ r. ⌜ r ≡ ringAnswer (plot rows columns (now (heights .entry))) post (now (ring .entry)) ⌝ }
-    ensures { λ _. ⌜ now (ring .exit) ≡ ringList (plot rows columns (now (heights .entry))) post (now (ring .entry)) ⌝ }
+pub fn ring(
+    sheet: &[u8],
+    rows: u32,
+    columns: u32,
+    heights: &[i32],
+    post: u32,
+    ring: &mut [u8],
+) -> RingMark
+    ensures { λ r. ⌜ r ≡ ringAnswer (plotBy (now (sheet .entry)) rows columns (now (heights .entry))) post (now (ring .entry)) ⌝ }
+    ensures { λ _. ⌜ now (ring .exit) ≡ ringList (plotBy (now (sheet .entry)) rows columns (now (heights .entry))) post (now (ring .entry)) ⌝ }
 {
-    let refusal = ring_verdict(rows, columns, heights, post, ring);
+    let said = read_sheet(sheet);
+    let refusal = ring_verdict(said, rows, columns, heights, post, ring);
     let code = refusal.code;
     if code != 0 {
         return RingMark {
@@ -59,6 +76,7 @@ pub fn ring(rows: u32, columns: u32, heights: &[i32], post: u32, ring: &mut [u8]
     let grid = Grid {
         rows: rows as usize,
         columns: columns as usize,
+        highest: said.rule == HIGHEST_RULE,
     };
     let p = post as usize;
     put_codes(heights, grid, p, ring);

@@ -4,21 +4,37 @@ use surface::Counts;
 use surface::Entries;
 use surface::Next;
 use surface::RingMark;
+use surface::Sheet;
 use surface::Size;
 ghost use mathlib.Core.Path.{_≡_};
 ghost use Rattle.surface.specs.Plot.{plot};
-ghost use Rattle.surface.specs.Calls.{surveyAnswer, surveyMarks, reshootAnswer, reshootHeights, reshootMarks, ringAnswer, ringList, nextDownAnswer, nextUpAnswer, thalwegAnswer, thalwegList, ridgeAnswer, ridgeList, partsAnswer, partsDales, partsHills, readAnswer, readHeights, writeAnswer, writeFile};
+ghost use Rattle.surface.specs.Calls.{plotBy, settingsAnswer, settingsName, surveyAnswer, surveyMarks, reshootAnswer, reshootHeights, reshootMarks, ringAnswer, ringList, nextDownAnswer, nextUpAnswer, thalwegAnswer, thalwegList, ridgeAnswer, ridgeList, partsAnswer, partsDales, partsHills, readAnswer, readHeights, writeAnswer, writeFile};
 
 #[no_mangle]
-pub extern "C" fn sn_survey(rows: u32, columns: u32, heights: &[i32], marks: &mut [u8]) -> Counts
-    ensures { λ r. ⌜ r ≡ surveyAnswer (plot rows columns (now (heights .entry))) (now (marks .entry)) ⌝ }
-    ensures { λ _. ⌜ now (marks .exit) ≡ surveyMarks (plot rows columns (now (heights .entry))) (now (marks .entry)) ⌝ }
+pub extern "C" fn sn_settings(sheet: &[u8], name: &mut [u8]) -> Sheet
+    ensures { λ r. ⌜ r ≡ settingsAnswer (now (sheet .entry)) (now (name .entry)) ⌝ }
+    ensures { λ _. ⌜ now (name .exit) ≡ settingsName (now (sheet .entry)) (now (name .entry)) ⌝ }
 {
-    survey::survey(rows, columns, heights, marks)
+    settings::settings(sheet, name)
+}
+
+#[no_mangle]
+pub extern "C" fn sn_survey(
+    sheet: &[u8],
+    rows: u32,
+    columns: u32,
+    heights: &[i32],
+    marks: &mut [u8],
+) -> Counts
+    ensures { λ r. ⌜ r ≡ surveyAnswer (plotBy (now (sheet .entry)) rows columns (now (heights .entry))) (now (marks .entry)) ⌝ }
+    ensures { λ _. ⌜ now (marks .exit) ≡ surveyMarks (plotBy (now (sheet .entry)) rows columns (now (heights .entry))) (now (marks .entry)) ⌝ }
+{
+    survey::survey(sheet, rows, columns, heights, marks)
 }
 
 #[no_mangle]
 pub extern "C" fn sn_reshoot(
+    sheet: &[u8],
     rows: u32,
     columns: u32,
     heights: &mut [i32],
@@ -26,43 +42,57 @@ pub extern "C" fn sn_reshoot(
     post: u32,
     height: i32,
 ) -> Answer
-    ensures { λ r. ⌜ r ≡ reshootAnswer (plot rows columns (now (heights .entry))) (now (marks .entry)) post height ⌝ }
-    ensures { λ _. ⌜ now (heights .exit) ≡ reshootHeights (plot rows columns (now (heights .entry))) (now (marks .entry)) post height ⌝ }
-    ensures { λ _. ⌜ now (marks .exit) ≡ reshootMarks (plot rows columns (now (heights .entry))) (now (marks .entry)) post height ⌝ }
+    ensures { λ r. ⌜ r ≡ reshootAnswer (plotBy (now (sheet .entry)) rows columns (now (heights .entry))) (now (marks .entry)) post height ⌝ }
+    ensures { λ _. ⌜ now (heights .exit) ≡ reshootHeights (plotBy (now (sheet .entry)) rows columns (now (heights .entry))) (now (marks .entry)) post height ⌝ }
+    ensures { λ _. ⌜ now (marks .exit) ≡ reshootMarks (plotBy (now (sheet .entry)) rows columns (now (heights .entry))) (now (marks .entry)) post height ⌝ }
 {
-    survey::reshoot(rows, columns, heights, marks, post, height)
+    survey::reshoot(sheet, rows, columns, heights, marks, post, height)
 }
 
 #[no_mangle]
 pub extern "C" fn sn_ring(
+    sheet: &[u8],
     rows: u32,
     columns: u32,
     heights: &[i32],
     post: u32,
     ring: &mut [u8],
 ) -> RingMark
-    ensures { λ r. ⌜ r ≡ ringAnswer (plot rows columns (now (heights .entry))) post (now (ring .entry)) ⌝ }
-    ensures { λ _. ⌜ now (ring .exit) ≡ ringList (plot rows columns (now (heights .entry))) post (now (ring .entry)) ⌝ }
+    ensures { λ r. ⌜ r ≡ ringAnswer (plotBy (now (sheet .entry)) rows columns (now (heights .entry))) post (now (ring .entry)) ⌝ }
+    ensures { λ _. ⌜ now (ring .exit) ≡ ringList (plotBy (now (sheet .entry)) rows columns (now (heights .entry))) post (now (ring .entry)) ⌝ }
 {
-    ring::ring(rows, columns, heights, post, ring)
+    ring::ring(sheet, rows, columns, heights, post, ring)
 }
 
 #[no_mangle]
-pub extern "C" fn sn_next_down(rows: u32, columns: u32, heights: &[i32], post: u32) -> Next
-    ensures { λ r. ⌜ r ≡ nextDownAnswer (plot rows columns (now (heights .entry))) post ⌝ }
+pub extern "C" fn sn_next_down(
+    sheet: &[u8],
+    rows: u32,
+    columns: u32,
+    heights: &[i32],
+    post: u32,
+) -> Next
+    ensures { λ r. ⌜ r ≡ nextDownAnswer (plotBy (now (sheet .entry)) rows columns (now (heights .entry))) post ⌝ }
 {
-    lines::next_down(rows, columns, heights, post)
+    lines::next_down(sheet, rows, columns, heights, post)
 }
 
 #[no_mangle]
-pub extern "C" fn sn_next_up(rows: u32, columns: u32, heights: &[i32], post: u32) -> Next
-    ensures { λ r. ⌜ r ≡ nextUpAnswer (plot rows columns (now (heights .entry))) post ⌝ }
+pub extern "C" fn sn_next_up(
+    sheet: &[u8],
+    rows: u32,
+    columns: u32,
+    heights: &[i32],
+    post: u32,
+) -> Next
+    ensures { λ r. ⌜ r ≡ nextUpAnswer (plotBy (now (sheet .entry)) rows columns (now (heights .entry))) post ⌝ }
 {
-    lines::next_up(rows, columns, heights, post)
+    lines::next_up(sheet, rows, columns, heights, post)
 }
 
 #[no_mangle]
 pub extern "C" fn sn_thalweg(
+    sheet: &[u8],
     rows: u32,
     columns: u32,
     heights: &[i32],
@@ -70,14 +100,15 @@ pub extern "C" fn sn_thalweg(
     run: u32,
     line: &mut [u16],
 ) -> Entries
-    ensures { λ r. ⌜ r ≡ thalwegAnswer (plot rows columns (now (heights .entry))) post run (now (line .entry)) ⌝ }
-    ensures { λ _. ⌜ now (line .exit) ≡ thalwegList (plot rows columns (now (heights .entry))) post run (now (line .entry)) ⌝ }
+    ensures { λ r. ⌜ r ≡ thalwegAnswer (plotBy (now (sheet .entry)) rows columns (now (heights .entry))) post run (now (line .entry)) ⌝ }
+    ensures { λ _. ⌜ now (line .exit) ≡ thalwegList (plotBy (now (sheet .entry)) rows columns (now (heights .entry))) post run (now (line .entry)) ⌝ }
 {
-    lines::thalweg(rows, columns, heights, post, run, line)
+    lines::thalweg(sheet, rows, columns, heights, post, run, line)
 }
 
 #[no_mangle]
 pub extern "C" fn sn_ridge(
+    sheet: &[u8],
     rows: u32,
     columns: u32,
     heights: &[i32],
@@ -85,25 +116,26 @@ pub extern "C" fn sn_ridge(
     run: u32,
     line: &mut [u16],
 ) -> Entries
-    ensures { λ r. ⌜ r ≡ ridgeAnswer (plot rows columns (now (heights .entry))) post run (now (line .entry)) ⌝ }
-    ensures { λ _. ⌜ now (line .exit) ≡ ridgeList (plot rows columns (now (heights .entry))) post run (now (line .entry)) ⌝ }
+    ensures { λ r. ⌜ r ≡ ridgeAnswer (plotBy (now (sheet .entry)) rows columns (now (heights .entry))) post run (now (line .entry)) ⌝ }
+    ensures { λ _. ⌜ now (line .exit) ≡ ridgeList (plotBy (now (sheet .entry)) rows columns (now (heights .entry))) post run (now (line .entry)) ⌝ }
 {
-    lines::ridge(rows, columns, heights, post, run, line)
+    lines::ridge(sheet, rows, columns, heights, post, run, line)
 }
 
 #[no_mangle]
 pub extern "C" fn sn_dales_and_hills(
+    sheet: &[u8],
     rows: u32,
     columns: u32,
     heights: &[i32],
     dales: &mut [u16],
     hills: &mut [u16],
 ) -> Answer
-    ensures { λ r. ⌜ r ≡ partsAnswer (plot rows columns (now (heights .entry))) (now (dales .entry)) (now (hills .entry)) ⌝ }
-    ensures { λ _. ⌜ now (dales .exit) ≡ partsDales (plot rows columns (now (heights .entry))) (now (dales .entry)) (now (hills .entry)) ⌝ }
-    ensures { λ _. ⌜ now (hills .exit) ≡ partsHills (plot rows columns (now (heights .entry))) (now (dales .entry)) (now (hills .entry)) ⌝ }
+    ensures { λ r. ⌜ r ≡ partsAnswer (plotBy (now (sheet .entry)) rows columns (now (heights .entry))) (now (dales .entry)) (now (hills .entry)) ⌝ }
+    ensures { λ _. ⌜ now (dales .exit) ≡ partsDales (plotBy (now (sheet .entry)) rows columns (now (heights .entry))) (now (dales .entry)) (now (hills .entry)) ⌝ }
+    ensures { λ _. ⌜ now (hills .exit) ≡ partsHills (plotBy (now (sheet .entry)) rows columns (now (heights .entry))) (now (dales .entry)) (now (hills .entry)) ⌝ }
 {
-    parts::dales_and_hills(rows, columns, heights, dales, hills)
+    parts::dales_and_hills(sheet, rows, columns, heights, dales, hills)
 }
 
 #[no_mangle]

@@ -5,21 +5,23 @@ mod verdict;
 
 use marks::mark_plot;
 use redraw::redraw;
+use settings::read_sheet;
 use surface::Answer;
 use surface::Counts;
 use surface::Grid;
+use surface::HIGHEST_RULE;
 use verdict::reshoot_verdict;
 use verdict::survey_verdict;
 ghost use mathlib.Core.Path.{_≡_};
-ghost use Rattle.surface.specs.Plot.{plot};
-ghost use Rattle.surface.specs.Calls.{surveyAnswer, surveyMarks, reshootAnswer, reshootHeights, reshootMarks};
+ghost use Rattle.surface.specs.Calls.{plotBy, surveyAnswer, surveyMarks, reshootAnswer, reshootHeights, reshootMarks};
 
 // Fills the marks of a plot and counts its peaks, pits and saddles. Refused: the marks stay as they were.
-pub fn survey(rows: u32, columns: u32, heights: &[i32], marks: &mut [u8]) -> Counts
-    ensures { λ r. ⌜ r ≡ surveyAnswer (plot rows columns (now (heights .entry))) (now (marks .entry)) ⌝ }
-    ensures { λ _. ⌜ now (marks .exit) ≡ surveyMarks (plot rows columns (now (heights .entry))) (now (marks .entry)) ⌝ }
+pub fn survey(sheet: &[u8], rows: u32, columns: u32, heights: &[i32], marks: &mut [u8]) -> Counts
+    ensures { λ r. ⌜ r ≡ surveyAnswer (plotBy (now (sheet .entry)) rows columns (now (heights .entry))) (now (marks .entry)) ⌝ }
+    ensures { λ _. ⌜ now (marks .exit) ≡ surveyMarks (plotBy (now (sheet .entry)) rows columns (now (heights .entry))) (now (marks .entry)) ⌝ }
 {
-    let verdict = survey_verdict(rows, columns, heights, marks);
+    let said = read_sheet(sheet);
+    let verdict = survey_verdict(said, rows, columns, heights, marks);
     let code = verdict.code;
     if code != 0 {
         return Counts {
@@ -33,6 +35,7 @@ pub fn survey(rows: u32, columns: u32, heights: &[i32], marks: &mut [u8]) -> Cou
     let grid = Grid {
         rows: rows as usize,
         columns: columns as usize,
+        highest: said.rule == HIGHEST_RULE,
     };
     mark_plot(heights, grid, marks);
     let t = tally::count(marks);
@@ -47,6 +50,7 @@ pub fn survey(rows: u32, columns: u32, heights: &[i32], marks: &mut [u8]) -> Cou
 
 // Puts a new height at one post, and works out afresh its mark and those of the posts that touch it. Refused: both lists stay as they were.
 pub fn reshoot(
+    sheet: &[u8],
     rows: u32,
     columns: u32,
     heights: &mut [i32],
@@ -54,11 +58,12 @@ pub fn reshoot(
     post: u32,
     height: i32,
 ) -> Answer
-    ensures { λ r. ⌜ r ≡ reshootAnswer (plot rows columns (now (heights .entry))) (now (marks .entry)) post height ⌝ }
-    ensures { λ _. ⌜ now (heights .exit) ≡ reshootHeights (plot rows columns (now (heights .entry))) (now (marks .entry)) post height ⌝ }
-    ensures { λ _. ⌜ now (marks .exit) ≡ reshootMarks (plot rows columns (now (heights .entry))) (now (marks .entry)) post height ⌝ }
+    ensures { λ r. ⌜ r ≡ reshootAnswer (plotBy (now (sheet .entry)) rows columns (now (heights .entry))) (now (marks .entry)) post height ⌝ }
+    ensures { λ _. ⌜ now (heights .exit) ≡ reshootHeights (plotBy (now (sheet .entry)) rows columns (now (heights .entry))) (now (marks .entry)) post height ⌝ }
+    ensures { λ _. ⌜ now (marks .exit) ≡ reshootMarks (plotBy (now (sheet .entry)) rows columns (now (heights .entry))) (now (marks .entry)) post height ⌝ }
 {
-    let verdict = reshoot_verdict(rows, columns, heights, marks, post, height);
+    let said = read_sheet(sheet);
+    let verdict = reshoot_verdict(said, rows, columns, heights, marks, post, height);
     let code = verdict.code;
     if code != 0 {
         return verdict;
@@ -66,6 +71,7 @@ pub fn reshoot(
     let grid = Grid {
         rows: rows as usize,
         columns: columns as usize,
+        highest: said.rule == HIGHEST_RULE,
     };
     let p = post as usize;
     heights[p] = height;

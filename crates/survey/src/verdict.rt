@@ -1,19 +1,26 @@
 // What a survey and a re-shoot are turned away for.
 use limits::heights_verdict;
 use limits::is_height;
-use limits::plot_verdict;
+use limits::lead_verdict;
 use surface::Answer;
+use surface::Sheet;
 ghost use mathlib.Core.Path.{_≡_};
-ghost use Rattle.surface.specs.Plot.{plot};
 ghost use Rattle.surface.specs.Refusals.{surveyVerdict, reshootVerdict};
+ghost use Rattle.surface.specs.Calls.{plotSaid};
 
-// Rows 1, 2, 3 and 4 of the table.
-pub(crate) fn survey_verdict(rows: u32, columns: u32, heights: &[i32], marks: &[u8]) -> Answer
-    ensures { λ r. ⌜ r ≡ surveyVerdict (plot rows columns (now (heights .entry))) (now (marks .entry)) ⌝ }
+// Rows 13, 14 and 1 to 4 of the table.
+pub(crate) fn survey_verdict(
+    said: Sheet,
+    rows: u32,
+    columns: u32,
+    heights: &[i32],
+    marks: &[u8],
+) -> Answer
+    ensures { λ r. ⌜ r ≡ surveyVerdict (plotSaid said rows columns (now (heights .entry))) (now (marks .entry)) ⌝ }
 {
-    let size = plot_verdict(rows, columns, heights);
-    if size.code != 0 {
-        return size;
+    let lead = lead_verdict(said, rows, columns, heights);
+    if lead.code != 0 {
+        return lead;
     }
     if marks.len() != heights.len() {
         return Answer { code: 3, place: 0 };
@@ -21,8 +28,9 @@ pub(crate) fn survey_verdict(rows: u32, columns: u32, heights: &[i32], marks: &[
     heights_verdict(heights)
 }
 
-// Rows 1 to 6.
+// Rows 13, 14 and 1 to 6.
 pub(crate) fn reshoot_verdict(
+    said: Sheet,
     rows: u32,
     columns: u32,
     heights: &[i32],
@@ -30,9 +38,9 @@ pub(crate) fn reshoot_verdict(
     post: u32,
     height: i32,
 ) -> Answer
-    ensures { λ r. ⌜ r ≡ reshootVerdict (plot rows columns (now (heights .entry))) (now (marks .entry)) post height ⌝ }
+    ensures { λ r. ⌜ r ≡ reshootVerdict (plotSaid said rows columns (now (heights .entry))) (now (marks .entry)) post height ⌝ }
 {
-    let first = survey_verdict(rows, columns, heights, marks);
+    let first = survey_verdict(said, rows, columns, heights, marks);
     if first.code != 0 {
         return first;
     }

@@ -6,7 +6,7 @@ use Rattle.lines.proofs.next_up.Tie as tie
 
 returns : tie.Need-returns
 unfolding nextUpAnswer
-returns c = c .next-post .ensures
+returns c = rw (← (c .before .read-sheet .ensures)) (c .next-post .ensures)
 
 pub next-up-spec : {M : Type 1} → statement M
-next-up-spec = tie.close (tie.spec (search needs) returns)
+next-up-spec = tie.close (tie.spec (search needs) (search needs) returns)

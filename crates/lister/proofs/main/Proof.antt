@@ -8,5 +8,14 @@ use Rattle.lister.proofs.main.Tie as tie
 slice-aggregate-print-file : tie.Need-slice-aggregate-print-file
 slice-aggregate-print-file c = sym (length-take-le _ _ (search needs))
 
+slice-aggregate-print-file-2 : tie.Need-slice-aggregate-print-file-2
+slice-aggregate-print-file-2 c = sym (length-take-le _ _ (search needs))
+
 pub main-spec : {M : Type 1} → statement M
-main-spec = tie.close (tie.spec (search needs) (search needs) (search needs) (search needs) (search needs) (search needs) slice-aggregate-print-file (search needs) (search needs) (search needs) (search needs) (search needs))
+main-spec =
+    tie.close
+    (tie.spec
+    (search needs) (search needs) (search needs) (search needs) (search needs)
+    (search needs) (search needs) (search needs) (search needs) (search needs)
+    (search needs) slice-aggregate-print-file (search needs) slice-aggregate-print-file-2 (search needs)
+    (search needs) (search needs) (search needs) (search needs))

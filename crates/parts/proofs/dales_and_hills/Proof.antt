@@ -1,39 +1,55 @@
 -- A refusal is handed on, and the ends of the paths that the next posts make are the names asked for.
-use mathlib.Core.Path.{sym, _∙_}
-use Rattle.surface.specs.Plot.{Plot, plot}
-use Rattle.surface.specs.Calls.{partsAnswer}
+use mathlib.Core.Path.{_≡_, sym, _∙_, ap}
+use Rattle.surface.specs.Plot.{Plot}
+use Rattle.surface.specs.Refusals.{partsVerdict}
+use Rattle.surface.specs.Calls.{plotSaid, partsAnswer}
+use Rattle.surface.specs.declared.Answer.{Answer}
 use Rattle.parts.specs.Filled.{ForParts}
 use Rattle.parts.proofs.Descents.{dales-end, hills-end, dales-named, hills-named}
 use Rattle.surface.proofs.OfCalls.Verdicts.{code}
-use Rattle.parts.proofs.Outcome.{parts-valid, parts-kept, parts-filled}
+use Rattle.surface.proofs.OfCalls.Accepted.{plain, plot-ruled}
+use Rattle.parts.proofs.Outcome.{parts-sheet, parts-valid, parts-kept, parts-filled}
 use borrow.Author.Needs.{needs}
 use Rattle.parts.proofs.dales_and_hills.Statement.{statement}
 use Rattle.parts.proofs.dales_and_hills.Tie as tie
 
--- the function's entry, from the verdict, and the plot that is spoken of
+-- the function's entry, from the verdict, the plot that is spoken of, and the verdict on it and on another
 abbrev start : tie.After-verdict → tie.Start
-start v = v .before .before .before .before .before
+start v = v .before .before .before .before .before .before .before
 
 abbrev asked : tie.After-verdict → Plot
-asked v = let a = start v .args in plot (a .rows) (a .columns) (a .heights .now)
+asked v = let a = start v .args in plotSaid (v .before .before .before .read-sheet .result) (a .rows) (a .columns) (a .heights .now)
+
+abbrev first : tie.After-verdict → Plot → Answer
+first v pl = let a = start v .args in partsVerdict pl (a .dales .now) (a .hills .now)
+
+-- what its acceptance says: its sheet is not bad
+passed : (c : tie.Else1) → let v = c .before .before in first v (asked v) .code ≡ 0
+passed c = sym (code (c .before .before .verdict .ensures)) ∙ c .if1 .left
+
+same : (c : tie.Else1) → let v = c .before .before in asked v ≡ plain (asked v)
+same c = plot-ruled _ (parts-sheet _ _ _ (passed c))
+
+served : (c : tie.Else1) → let v = c .before .before in first v (plain (asked v)) .code ≡ 0
+served c = let v = c .before .before in sym (ap (λ (pl : Plot). first v pl .code) (same c)) ∙ passed c
 
 -- what an accepted call was lent
-lent : (c : tie.Else1) → let v = c .before .before in ForParts (asked v) (start v .args .dales .now) (start v .args .hills .now)
-lent c = parts-valid _ _ _ (sym (code (c .before .before .verdict .ensures)) ∙ c .if1 .left)
+lent : (c : tie.Else1) → let v = c .before .before in ForParts (plain (asked v)) (start v .args .dales .now) (start v .args .hills .now)
+lent c = parts-valid _ _ _ (served c)
 
 -- acceptance, from the filled lists
 abbrev accepted : tie.After-fill-nexts → tie.Else1
-accepted f = f .before .before .before
+accepted f = f .before .before .before .before
 
 returns : tie.Need-returns
 unfolding partsAnswer
 returns c =
     let v = c .before .before in
     let k = parts-kept _ _ _ (λ e. c .if1 .taken (code (v .verdict .ensures) ∙ e)) in
-    (v .verdict .ensures, (k .0, k .1))
+    rw (← (v .before .before .before .read-sheet .ensures)) (v .verdict .ensures, (k .0, k .1))
 
 fill-nexts-requires : tie.Need-fill-nexts-requires
-fill-nexts-requires c κs = lent (c .before .before)
+fill-nexts-requires c κs = lent (c .before .before .before)
 
 shorten-requires : tie.Need-shorten-requires
 shorten-requires c κs = let f = c .before .before .before .before .before in dales-end (lent (accepted f)) (f .fill-nexts .ensures)
@@ -49,13 +65,14 @@ returns-2 c =
     let f = d .before .before .before .before .before .before in
     let a = accepted f in
     let v = a .before .before in
-    let k = parts-filled _ _ _ (sym (code (v .verdict .ensures)) ∙ a .if1 .left) in (
+    let k = parts-filled _ _ _ (served a) in
+    rw (← (v .before .before .before .read-sheet .ensures)) (
       v .verdict .ensures,
-      (
+      rw (same a) (
         d .shorten .ensures ∙ dales-named (lent a) (f .fill-nexts .ensures) ∙ k .0,
         h .shorten2 .ensures ∙ hills-named (lent a) (f .fill-nexts .ensures) ∙ k .1,
       ),
     )
 
 pub dales-and-hills-spec : {M : Type 1} → statement M
-dales-and-hills-spec = tie.close (tie.spec (search needs) (search needs) (search needs) returns fill-nexts-requires shorten-requires shorten-requires-2 (search needs) (search needs) returns-2)
+dales-and-hills-spec = tie.close (tie.spec (search needs) (search needs) (search needs) (search needs) returns fill-nexts-requires shorten-requires shorten-requires-2 (search needs) (search needs) returns-2)

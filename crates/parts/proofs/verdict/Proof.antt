@@ -1,10 +1,10 @@
--- Rows 1 and 2 lead, then row 3, then row 4.
+-- After the rows that lead, row 3, then row 4.
 use mathlib.Core.Path.{_≡_, sym, _∙_}
-use mathlib.Core.List.{[], _∷_}
 use native.Mathlib.Omega.{arith}
-use Rattle.surface.specs.Plot.{Plot, plot}
-use Rattle.surface.specs.Refusals.{verdict, row1, row2}
-use Rattle.surface.proofs.OfCalls.Accepted.{plot-sized}
+use Rattle.surface.specs.Plot.{Plot}
+use Rattle.surface.specs.Refusals.{verdict, leading}
+use Rattle.surface.specs.Calls.{plotSaid}
+use Rattle.surface.proofs.OfCalls.Accepted.{led-sized}
 use Rattle.surface.proofs.OfCalls.Verdicts.{code}
 use Rattle.parts.proofs.Outcome.{size-refused, lists-refused, lists-passed}
 use borrow.Author.Needs.{needs}
@@ -15,22 +15,22 @@ abbrev start : tie.Else1 → tie.Start
 start c = c .before .before .before .before .before
 
 abbrev asked : tie.Else1 → Plot
-asked c = let a = start c .args in plot (a .rows) (a .columns) (a .heights .now)
+asked c = let a = start c .args in plotSaid (a .said) (a .rows) (a .columns) (a .heights .now)
 
--- rows 1 and 2 pass
-sized : (c : tie.Else1) → verdict (row1 (asked c .rows) (asked c .columns) ∷ row2 (asked c) ∷ []) .code ≡ 0
-sized c = sym (code (c .before .before .plot-verdict .ensures)) ∙ c .if1 .left
+-- the rows that lead pass
+sized : (c : tie.Else1) → verdict (leading (asked c)) .code ≡ 0
+sized c = sym (code (c .before .before .lead-verdict .ensures)) ∙ c .if1 .left
 
 returns : tie.Need-returns
 returns c =
-    let e = c .before .before .plot-verdict .ensures in
+    let e = c .before .before .lead-verdict .ensures in
     e ∙ sym (size-refused _ _ _ (λ z. c .if1 .taken (code e ∙ z)))
 
 returns-2 : tie.Need-returns-2
 returns-2 c = sym (lists-refused (asked (c .before)) _ _ (sized (c .before)) (c .if2 .taken))
 
 heights-verdict-requires : tie.Need-heights-verdict-requires
-heights-verdict-requires c κs = let k = plot-sized (asked (c .before)) (sized (c .before)) in omega (arith, k .0, k .1)
+heights-verdict-requires c κs = let k = led-sized (asked (c .before)) (sized (c .before)) in omega (arith, k .0, k .1)
 
 returns-3 : tie.Need-returns-3
 returns-3 c = c .heights-verdict .ensures ∙ sym (lists-passed (asked (c .before .before)) _ _ (sized (c .before .before)) (c .before .if2 .left))

@@ -1,39 +1,40 @@
--- Rows 1 and 2 lead, then row 3, then rows 4 and 5.
+-- After the rows that lead, row 3, then rows 4 and 5.
 use mathlib.Core.Path.{_≡_, sym, _∙_, ap}
 use mathlib.Core.Bool.{not}
 use mathlib.Core.List.{[], _∷_}
 use borrow.Author.Needs.{needs}
 use borrow.Author.Tests.{eq-eqb, ne-eqb}
-use Rattle.surface.specs.Plot.{Plot, plot}
-use Rattle.surface.specs.Refusals.{verdict, row1, row2, ringVerdict}
+use Rattle.surface.specs.Plot.{Plot}
+use Rattle.surface.specs.Refusals.{verdict, leading, nextVerdict, ringVerdict}
+use Rattle.surface.specs.Calls.{plotSaid}
 use Rattle.surface.proofs.OfCalls.Verdicts.{code, leads-refused, leads-passed, row-holds, row-passed}
 use Rattle.ring.proofs.ring_verdict.Statement.{statement}
 use Rattle.ring.proofs.ring_verdict.Tie as tie
 
 abbrev asked : tie.Else1 → Plot
-asked c = let a = c .before .before .before .before .args in plot (a .rows) (a .columns) (a .heights .now)
+asked c = let a = c .before .before .before .before .args in plotSaid (a .said) (a .rows) (a .columns) (a .heights .now)
 
--- rows 1 and 2 pass
-sized : (c : tie.Else1) → verdict (row1 (asked c .rows) (asked c .columns) ∷ row2 (asked c) ∷ []) .code ≡ 0
-sized c = sym (code (c .before .before .plot-verdict .ensures)) ∙ c .if1 .left
+-- the rows that lead pass
+sized : (c : tie.Else1) → verdict (leading (asked c)) .code ≡ 0
+sized c = sym (code (c .before .before .lead-verdict .ensures)) ∙ c .if1 .left
 
 returns : tie.Need-returns
 unfolding ringVerdict
 returns c =
-    let e = c .before .before .plot-verdict .ensures in
-    e ∙ sym (leads-refused (_ ∷ _ ∷ []) _ tt (λ z. c .if1 .taken (code e ∙ z)))
+    let e = c .before .before .lead-verdict .ensures in
+    e ∙ sym (leads-refused (_ ∷ _ ∷ _ ∷ _ ∷ []) _ tt (λ z. c .if1 .taken (code e ∙ z)))
 
 returns-2 : tie.Need-returns-2
 unfolding ringVerdict
-returns-2 c = sym (leads-passed (_ ∷ _ ∷ []) _ tt (sized (c .before)) ∙ row-holds _ _ (ap not (ne-eqb _ _ (c .if2 .taken))))
+returns-2 c = sym (leads-passed (_ ∷ _ ∷ _ ∷ _ ∷ []) _ tt (sized (c .before)) ∙ row-holds _ _ (ap not (ne-eqb _ _ (c .if2 .taken))))
 
 returns-3 : tie.Need-returns-3
-unfolding ringVerdict
+unfolding nextVerdict ringVerdict
 returns-3 c =
     let e = c .before .before in
     c .post-verdict .ensures
-    ∙ leads-passed (_ ∷ _ ∷ []) _ tt (sized e)
-    ∙ sym (leads-passed (_ ∷ _ ∷ []) _ tt (sized e) ∙ row-passed _ _ (ap not (eq-eqb _ _ (c .before .if2 .left))))
+    ∙ leads-passed (_ ∷ _ ∷ _ ∷ _ ∷ []) _ tt (sized e)
+    ∙ sym (leads-passed (_ ∷ _ ∷ _ ∷ _ ∷ []) _ tt (sized e) ∙ row-passed _ _ (ap not (eq-eqb _ _ (c .before .if2 .left))))
 
 pub ring-verdict-spec : {M : Type 1} → statement M
 ring-verdict-spec = tie.close (tie.spec (search needs) returns returns-2 (search needs) returns-3)

@@ -8,7 +8,7 @@ use Rattle.surface_network.proofs.sn_reshoot.Tie as tie
 
 returns : tie.Need-returns
 returns c =
-    let s = c .before .before .before .before .before .before .before in
+    let s = c .before .before .before .before .before .before .before .before in
     let r : toZ w32 (ofZ w32 (s .args .height)) ≡ s .args .height = search needs in
     rw r at (c .before .before .before .reshoot .ensures)
 

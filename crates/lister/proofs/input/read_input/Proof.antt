@@ -17,10 +17,10 @@ use Rattle.lister.proofs.input.read_input.Statement.{statement}
 use Rattle.lister.proofs.input.read_input.Tie as tie
 
 abbrev Inv-loop : tie.InvT-loop
-Inv-loop file₀ bytes₀ file bytes = (bytes ≤ length file) × (length file ≡ length file₀)
+Inv-loop from file₀ bytes₀ file bytes = (bytes ≤ length file) × (length file ≡ length file₀)
 
 abbrev μ-loop : tie.MeasureT-loop
-μ-loop file₀ bytes₀ file bytes = length file - bytes
+μ-loop from file₀ bytes₀ file bytes = length file - bytes
 
 -- what was read, where it is not -1 or 0
 some-of : (n : ℕ) (z : ℤ) → Moved n z → leZ z (pos 0) ≡ false → T (nonNeg z) × (1 ≤ natAbs z) × (natAbs z ≤ n)

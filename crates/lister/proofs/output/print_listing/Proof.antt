@@ -17,7 +17,7 @@ print-posts-requires c κs =
     let left = c .before .before .before .before in
     let wrote = left .before .before in
     let first = wrote .before .before .before .before .before .before .before .before .before .before .before .before in
-    let start = first .before .before .before .before .before .before .before .before .before .before .before in (
+    let start = first .before .before .before .before .before .before .before .before .before .before .before .before in (
       first .put-first .ensures .known (eqb-false _ 0 (or-right (not (wrote .write-all .result)) _ (left .if1 .left))),
       omega (arith, first .put-first .kept, start .pre .1),
     )

@@ -1,4 +1,4 @@
--- The first four rows are a survey's.
+-- The first rows are a survey's.
 use mathlib.Core.Path.{_≡_, sym, _∙_, ap}
 use mathlib.Core.Bool.{not}
 use mathlib.Core.List.{[], _∷_}
@@ -6,8 +6,9 @@ use mir.Syntax.{w32}
 use mir.Val.{toZ, ofZ}
 use borrow.Author.Needs.{needs}
 use borrow.Author.Tests.{lt-ltb, le-ltb, not-true, not-false}
-use Rattle.surface.specs.Plot.{Plot, plot, posts, isHeight}
+use Rattle.surface.specs.Plot.{Plot, posts, isHeight}
 use Rattle.surface.specs.Refusals.{verdict, surveyVerdict, reshootVerdict, row5, row6}
+use Rattle.surface.specs.Calls.{plotSaid}
 use Rattle.surface.proofs.OfCalls.Verdicts.{code, leads-refused, leads-passed, row-holds, row-passed, none-left}
 use Rattle.surface.proofs.OfCalls.Accepted.{survey-valid}
 use lib.ListN.{length}
@@ -15,7 +16,7 @@ use Rattle.survey.proofs.verdict.reshoot_verdict.Statement.{statement}
 use Rattle.survey.proofs.verdict.reshoot_verdict.Tie as tie
 
 abbrev asked : tie.Else1 → Plot
-asked c = let a = c .before .before .before .before .args in plot (a .rows) (a .columns) (a .heights .now)
+asked c = let a = c .before .before .before .before .args in plotSaid (a .said) (a .rows) (a .columns) (a .heights .now)
 
 passed : (c : tie.Else1) → surveyVerdict (asked c) (c .before .before .before .before .args .marks .now) .code ≡ 0
 passed c = sym (code (c .before .before .survey-verdict .ensures)) ∙ c .if1 .left
@@ -27,7 +28,7 @@ goes-on : (c : tie.Else1)
     → let a = c .before .before .before .before .args in
     reshootVerdict (asked c) (a .marks .now) (a .post) (a .height) ≡ verdict (row5 (asked c) (a .post) ∷ row6 (a .height) ∷ [])
 unfolding surveyVerdict reshootVerdict
-goes-on c = leads-passed (_ ∷ _ ∷ _ ∷ _ ∷ []) _ tt (passed c)
+goes-on c = leads-passed (_ ∷ _ ∷ _ ∷ _ ∷ _ ∷ _ ∷ []) _ tt (passed c)
 
 -- the post is one of the plot's
 inside : (c : tie.Else2)
@@ -47,7 +48,7 @@ returns : tie.Need-returns
 unfolding surveyVerdict reshootVerdict
 returns c =
     let e = c .before .before .survey-verdict .ensures in
-    e ∙ sym (leads-refused (_ ∷ _ ∷ _ ∷ _ ∷ []) _ tt (λ z. c .if1 .taken (code e ∙ z)))
+    e ∙ sym (leads-refused (_ ∷ _ ∷ _ ∷ _ ∷ _ ∷ _ ∷ []) _ tt (λ z. c .if1 .taken (code e ∙ z)))
 
 returns-2 : tie.Need-returns-2
 returns-2 c = let e = c .before in sym (goes-on e ∙ row-holds _ _ (ap not (le-ltb _ _ (rw (size e) at (c .if2 .taken)))))
