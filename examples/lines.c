@@ -1,5 +1,6 @@
 /*
- * Lists all lines of a plot and draws them on a map of its posts.
+ * Lists all lines of a plot, which has no settings sheet, and draws them on a map of its
+ * posts.
  *
  *     lines plot.svy
  *
@@ -72,13 +73,15 @@ static int show_lines_of(uint32_t saddle)
     sn_entries entries;
 
     for (run = 0; run < runs; run++) {
-        entries = sn_thalweg(rows, columns, heights, posts, saddle, run, line, SN_MAX_LINE);
+        entries = sn_thalweg(SN_NO_SHEET, rows, columns, heights, posts, saddle, run, line,
+                             SN_MAX_LINE);
         if (entries.code != SN_OK)
             return refused("thalweg", entries.code);
         show_line('T', saddle, run, entries.count);
     }
     for (run = 0; run < runs; run++) {
-        entries = sn_ridge(rows, columns, heights, posts, saddle, run, line, SN_MAX_LINE);
+        entries = sn_ridge(SN_NO_SHEET, rows, columns, heights, posts, saddle, run, line,
+                           SN_MAX_LINE);
         if (entries.code != SN_OK)
             return refused("ridge", entries.code);
         show_line('R', saddle, run, entries.count);
@@ -118,7 +121,7 @@ int main(int argc, char **argv)
     }
     if (read_plot(argv[1]))
         return 1;
-    counts = sn_survey(rows, columns, heights, posts, marks, posts);
+    counts = sn_survey(SN_NO_SHEET, rows, columns, heights, posts, marks, posts);
     if (counts.code != SN_OK)
         return refused("survey", counts.code);
     for (post = 0; post < posts; post++)

@@ -1,15 +1,17 @@
 /*
- * A small panel program: reads a survey file, surveys it, re-shoots a post,
- * follows a walk a post at a time, and shows a saddle with the grounds of its mark
- * and its water line.
+ * A small panel program: reads a survey file and the plot's settings sheet, surveys it,
+ * re-shoots a post, follows a walk a post at a time, and shows a saddle with the grounds
+ * of its mark and its water line.
  *
- *     panel plot.svy
+ *     panel plot.svy [plot.set]
  */
 #include "surface_network.h"
 
 #include <stdio.h>
 
-static uint8_t file[SN_MAX_FILE + 1]; /* a byte more, to see a file that is too long */
+/* A byte more than the longest, to see a file that is too long. */
+static uint8_t file[SN_MAX_FILE + 1], sheet[SN_MAX_SHEET + 1];
+static size_t file_length, sheet_length; /* 0 where there is no sheet */
 static uint32_t rows, columns;
 static size_t posts;
 static int32_t heights[SN_MAX_POSTS];
@@ -32,23 +34,29 @@ static void print_vertex(uint32_t v)
         printf(" %lu", (unsigned long)v);
 }
 
-/* Reads a plot. Bytes 5 and 6 of a file tell how many heights there are. A read that
-   fails is no short file. */
-static int read_plot(const char *name)
+/* Reads a file, as far as there is room. A read that fails is no short file. */
+static int read_file(const char *name, uint8_t *bytes, size_t room, size_t *length)
 {
     FILE *f = fopen(name, "rb");
-    size_t length = f == NULL ? 0 : fread(file, 1, sizeof file, f);
-    sn_size size;
 
+    *length = f == NULL ? 0 : fread(bytes, 1, room, f);
     if (f == NULL || ferror(f)) {
         perror(name);
         return 1;
     }
     fclose(f);
-    posts = length < SN_FILE_HEADER ? 0 : (size_t)file[5] * file[6];
+    return 0;
+}
+
+/* The plot of the file that was read. Bytes 5 and 6 tell how many heights there are. */
+static int read_plot(void)
+{
+    sn_size size;
+
+    posts = file_length < SN_FILE_HEADER ? 0 : (size_t)file[5] * file[6];
     if (posts > SN_MAX_POSTS)
         posts = 0;
-    size = sn_read_survey(file, length, heights, posts);
+    size = sn_read_survey(file, file_length, heights, posts);
     if (size.code != SN_OK)
         return refused("read", size.code, size.place);
     rows = size.rows;
@@ -56,9 +64,26 @@ static int read_plot(const char *name)
     return 0;
 }
 
+/* What the plot's sheet says. All calls are lent that sheet: no call remembers a rule. */
+static int show_settings(void)
+{
+    uint8_t name[SN_MAX_NAME];
+    sn_sheet said = sn_settings(sheet, sheet_length, name, SN_MAX_NAME);
+
+    if (said.code != SN_OK)
+        return refused("settings", said.code, said.place);
+    if (said.name_length == 0)
+        printf("no name");
+    else
+        printf("%.*s", (int)said.name_length, (const char *)name);
+    printf(": diagonals through the %s posts\n",
+           said.rule == SN_THROUGH_LOWEST ? "lowest" : "highest");
+    return 0;
+}
+
 static int survey(void)
 {
-    sn_counts counts = sn_survey(rows, columns, heights, posts, marks, posts);
+    sn_counts counts = sn_survey(sheet, sheet_length, rows, columns, heights, posts, marks, posts);
 
     if (counts.code != SN_OK)
         return refused("survey", counts.code, counts.place);
@@ -71,7 +96,8 @@ static int survey(void)
 /* Puts a corrected height at a post; only the marks round it change. */
 static int reshoot(uint32_t post, int32_t height)
 {
-    sn_answer answer = sn_reshoot(rows, columns, heights, posts, marks, posts, post, height);
+    sn_answer answer = sn_reshoot(sheet, sheet_length, rows, columns, heights, posts, marks, posts,
+                                  post, height);
 
     if (answer.code != SN_OK)
         return refused("re-shoot", answer.code, answer.place);
@@ -85,7 +111,7 @@ static int walk_down(uint32_t post)
 {
     printf("walk:");
     for (;;) {
-        sn_next next = sn_next_down(rows, columns, heights, posts, post);
+        sn_next next = sn_next_down(sheet, sheet_length, rows, columns, heights, posts, post);
         if (next.code != SN_OK)
             return refused("next", next.code, next.place);
         print_vertex(post);
@@ -107,7 +133,8 @@ static int show_ring(uint32_t post)
     static const char *const signs[] = {"", "+", "+=", "-", "-="};
     uint8_t ring[SN_RING_LENGTH];
     size_t i;
-    sn_ring_mark shown = sn_ring(rows, columns, heights, posts, post, ring, SN_RING_LENGTH);
+    sn_ring_mark shown = sn_ring(sheet, sheet_length, rows, columns, heights, posts, post, ring,
+                                 SN_RING_LENGTH);
 
     if (shown.code != SN_OK)
         return refused("ring", shown.code, shown.place);
@@ -122,9 +149,9 @@ static int show_ring(uint32_t post)
 static int show_saddle(uint32_t saddle)
 {
     uint32_t i;
-    sn_answer parts = sn_dales_and_hills(rows, columns, heights, posts,
+    sn_answer parts = sn_dales_and_hills(sheet, sheet_length, rows, columns, heights, posts,
                                          dales, posts, hills, posts);
-    sn_entries entries = sn_thalweg(rows, columns, heights, posts, saddle, 0,
+    sn_entries entries = sn_thalweg(sheet, sheet_length, rows, columns, heights, posts, saddle, 0,
                                     line, SN_MAX_LINE);
 
     if (parts.code != SN_OK)
@@ -146,11 +173,15 @@ int main(int argc, char **argv)
 {
     uint32_t middle, saddle;
 
-    if (argc != 2) {
-        fprintf(stderr, "usage: panel plot.svy\n");
+    if (argc != 2 && argc != 3) {
+        fprintf(stderr, "usage: panel plot.svy [plot.set]\n");
         return 2;
     }
-    if (read_plot(argv[1]) || survey())
+    if (read_file(argv[1], file, sizeof file, &file_length) || read_plot())
+        return 1;
+    if (argc == 3 && read_file(argv[2], sheet, sizeof sheet, &sheet_length))
+        return 1;
+    if (show_settings() || survey())
         return 1;
     middle = (uint32_t)posts / 2;
     if (reshoot(middle, heights[middle] - 5))

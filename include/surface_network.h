@@ -9,9 +9,11 @@
  * heights are equal and its number is less. The virtual pit lies below every
  * post, outside the border; it is written SN_VIRTUAL_PIT in lists.
  *
- * Edges: the sides of each cell of four posts, the one diagonal of the cell
- * through its lowest post, and an edge from each border post to the virtual
- * pit. The ring of a post is its neighbours clockwise from north:
+ * Edges: the sides of each cell of four posts, one diagonal of the cell, and an
+ * edge from each border post to the virtual pit. The diagonal goes through the
+ * lowest post of the cell, or, by rule 2, through the highest: the settings sheet
+ * that is lent to a call tells which (sn_settings). The ring of a post is its
+ * neighbours clockwise from north:
  *
  *     NW  N  NE        7 0 1
  *      W  .  E         6 . 2      the virtual pit stands at N in the top row,
@@ -38,7 +40,7 @@
  *   only read may be lent to several at once. Whoever re-shoots a plot keeps other
  *   threads from its lists meanwhile.
  * - An accepted call answers code SN_OK, place 0, then its values. A refused one
- *   answers a code from 1 to 12 and its place; every other value is 0, and no
+ *   answers a code from 1 to 14 and its place; every other value is 0, and no
  *   list is changed. Where several refusals hold, the one listed first under the
  *   call is answered. The place is 0 except with SN_HEIGHT_OUT_OF_RANGE.
  */
@@ -53,8 +55,8 @@ extern "C" {
 #endif
 
 /* Version of the library. The build takes it from these three lines. */
-#define SN_VERSION_MAJOR 1
-#define SN_VERSION_MINOR 3
+#define SN_VERSION_MAJOR 2
+#define SN_VERSION_MINOR 0
 #define SN_VERSION_PATCH 0
 #define SN_VERSION \
     SN_TEXT(SN_VERSION_MAJOR) "." SN_TEXT(SN_VERSION_MINOR) "." SN_TEXT(SN_VERSION_PATCH)
@@ -65,8 +67,10 @@ extern "C" {
 
 #ifdef __cplusplus
 #define SN_TO_SIZE(number) static_cast<size_t>(number)
+#define SN_NO_BYTES static_cast<const uint8_t *>(0)
 #else
 #define SN_TO_SIZE(number) ((size_t)(number))
+#define SN_NO_BYTES ((const uint8_t *)0)
 #endif
 
 /* SN_USE_ANSWER warns of an answer that is not looked at; SN_READS, SN_WRITES and
@@ -114,6 +118,28 @@ extern "C" {
 #define SN_FILE_SIZE(rows, columns) \
     (SN_FILE_HEADER + 4 * SN_TO_SIZE(rows) * SN_TO_SIZE(columns))
 #define SN_MAX_FILE 57607 /* SN_FILE_SIZE(SN_MAX_SIDE, SN_MAX_SIDE) */
+
+/* Settings sheets, in bytes: the first that are always there, and the most that a sheet has. */
+#define SN_SHEET_VERSION 1
+#define SN_SHEET_HEADER 5
+#define SN_MAX_SHEET 42
+#define SN_MAX_NAME 32
+
+/* The two arguments that stand for a sheet where there is none: sn_survey(SN_NO_SHEET, rows, ..). */
+#define SN_NO_SHEET SN_NO_BYTES, 0
+
+/* Kinds of a sheet's entries. */
+enum {
+    SN_ENTRY_RULE = 1, /* one byte: the rule */
+    SN_ENTRY_NAME = 2  /* 1 to SN_MAX_NAME bytes, each 32 to 126: the plot's name */
+};
+
+/* Rules: which diagonal cuts a cell. */
+enum {
+    SN_THROUGH_LOWEST = 1,  /* the one through its lowest post */
+    SN_THROUGH_HIGHEST = 2, /* the one through its highest post */
+    SN_DEFAULT_RULE = SN_THROUGH_LOWEST /* where no sheet, or no entry of it, names one */
+};
 
 /* Marks, one byte a post. */
 enum {
@@ -163,8 +189,14 @@ enum {
     SN_LINE_TOO_LONG = 9,       /* the line has more entries than its list */
     SN_FILE_TOO_SHORT = 10,     /* file under 7 bytes */
     SN_BAD_VERSION = 11,        /* version not 1 */
-    SN_BAD_COUNT = 12           /* stated count is not that of the bytes after
+    SN_BAD_COUNT = 12,          /* stated count is not that of the bytes after
                                    it, or not 2 + 4 * rows * columns */
+    SN_BAD_SHEET = 13,          /* a sheet of 1 to 4 bytes, of another version,
+                                   whose count is not that of the bytes after it,
+                                   or whose entries do not end where it ends */
+    SN_BAD_ENTRY = 14           /* an entry of a sheet whose kind is unknown or not
+                                   above the one before, or whose length or value
+                                   is outside its range */
 };
 
 /* The code of an answer in words, for a message. Never null; the text lives as long as the program. */
@@ -184,6 +216,8 @@ SN_INLINE const char *sn_code_text(uint32_t code)
     case SN_FILE_TOO_SHORT: return "the file has under 7 bytes";
     case SN_BAD_VERSION: return "the file's version is not 1";
     case SN_BAD_COUNT: return "the file's count does not fit its length and sides";
+    case SN_BAD_SHEET: return "the settings sheet is not whole";
+    case SN_BAD_ENTRY: return "the settings sheet has an entry that it may not have";
     default: return "no such code";
     }
 }
@@ -192,6 +226,12 @@ SN_INLINE const char *sn_code_text(uint32_t code)
 typedef struct sn_answer {
     uint32_t code, place;
 } sn_answer;
+
+typedef struct sn_sheet {
+    uint32_t code, place;
+    uint32_t rule;        /* SN_THROUGH_LOWEST or SN_THROUGH_HIGHEST */
+    uint32_t name_length; /* 0 where the sheet has no name */
+} sn_sheet;
 
 typedef struct sn_counts {
     uint32_t code, place;
@@ -223,30 +263,63 @@ typedef struct sn_size {
 } sn_size;
 
 /*
+ * A settings sheet says of a plot which diagonals cut its cells, and its name:
+ *
+ *     byte 0       version, SN_SHEET_VERSION
+ *     bytes 1..4   count of the bytes after these, unsigned, big-endian
+ *     then         entries: a byte of kind, a byte of length, and as many bytes of
+ *                  value. Kinds rise from entry to entry. Each may be left out.
+ *
+ * Every call that needs diagonals takes a sheet, as its first list. A sheet of
+ * length 0 is no sheet (SN_NO_SHEET). No sheet, and one without SN_ENTRY_RULE, mean
+ * SN_DEFAULT_RULE. A sheet that is refused is refused before anything else that the
+ * call checks. Nothing is remembered: calls that belong together, as a survey and its
+ * re-shoots, are lent sheets that mean one rule.
+ *
+ * Settings: what a sheet says.
+ *
+ * Reads   sheet.
+ * Writes  name, exactly SN_MAX_NAME bytes: the name at the front, zeros after.
+ * Answers SN_OK with the rule and the length of the name, or in this order
+ *   SN_BAD_SHEET
+ *   SN_BAD_ENTRY
+ *   SN_BAD_LIST_LENGTH      name is not SN_MAX_NAME bytes
+ */
+SN_USE_ANSWER SN_READS(1, 2) SN_WRITES(3, 4)
+sn_sheet sn_settings(const uint8_t *sheet, size_t sheet_length,
+                     uint8_t *name, size_t name_length);
+
+/*
  * Survey: marks every post and counts peaks, pits and saddles.
  *
- * Reads   heights, rows * columns of them.
+ * Reads   sheet, and heights, rows * columns of them.
  * Writes  marks, as many: every entry.
  * Answers SN_OK, or in this order
+ *   SN_BAD_SHEET
+ *   SN_BAD_ENTRY
  *   SN_BAD_SIDES
  *   SN_BAD_HEIGHTS_LENGTH
  *   SN_BAD_LIST_LENGTH      marks are not rows * columns
  *   SN_HEIGHT_OUT_OF_RANGE  place: the first such post
  */
-SN_USE_ANSWER SN_READS(3, 4) SN_WRITES(5, 6)
-sn_counts sn_survey(uint32_t rows, uint32_t columns,
+SN_USE_ANSWER SN_READS(1, 2) SN_READS(5, 6) SN_WRITES(7, 8)
+sn_counts sn_survey(const uint8_t *sheet, size_t sheet_length,
+                    uint32_t rows, uint32_t columns,
                     const int32_t *heights, size_t heights_length,
                     uint8_t *marks, size_t marks_length);
 
 /*
  * Re-shoot: puts a new height at one post.
  *
- * Reads   heights, rows * columns of them.
+ * Reads   sheet, and heights, rows * columns of them.
  * Writes  heights[post], and afresh the marks of that post and of those that
  *         touch it by side or corner. No other height or mark is touched. If the
  *         marks were those of a survey of the old heights with these rows and
- *         columns, they are now those of a survey of the new ones.
+ *         columns and a sheet that means the same rule, they are now those of a
+ *         survey of the new ones.
  * Answers SN_OK, or in this order
+ *   SN_BAD_SHEET
+ *   SN_BAD_ENTRY
  *   SN_BAD_SIDES
  *   SN_BAD_HEIGHTS_LENGTH
  *   SN_BAD_LIST_LENGTH      marks are not rows * columns
@@ -255,8 +328,9 @@ sn_counts sn_survey(uint32_t rows, uint32_t columns,
  *   SN_NO_SUCH_POST
  *   SN_BAD_NEW_HEIGHT
  */
-SN_USE_ANSWER SN_CHANGES(3, 4) SN_CHANGES(5, 6)
-sn_answer sn_reshoot(uint32_t rows, uint32_t columns,
+SN_USE_ANSWER SN_READS(1, 2) SN_CHANGES(5, 6) SN_CHANGES(7, 8)
+sn_answer sn_reshoot(const uint8_t *sheet, size_t sheet_length,
+                     uint32_t rows, uint32_t columns,
                      int32_t *heights, size_t heights_length,
                      uint8_t *marks, size_t marks_length,
                      uint32_t post, int32_t height);
@@ -265,19 +339,22 @@ sn_answer sn_reshoot(uint32_t rows, uint32_t columns,
  * Ring: the grounds of a post's mark. How each member of its ring stands to it, in the
  * ring's order, with the number of lower runs and the mark.
  *
- * Reads   heights, rows * columns of them.
+ * Reads   sheet, and heights, rows * columns of them.
  * Writes  ring, exactly SN_RING_LENGTH bytes: a code for each member from the front,
  *         without gaps, then SN_NO_MEMBER. The codes before it, taken as a circle,
  *         have k runs of SN_BELOW_BY_HEIGHT and SN_BELOW_BY_TIE.
  * Answers SN_OK, or in this order
+ *   SN_BAD_SHEET
+ *   SN_BAD_ENTRY
  *   SN_BAD_SIDES
  *   SN_BAD_HEIGHTS_LENGTH
  *   SN_BAD_LIST_LENGTH      ring is not SN_RING_LENGTH bytes
  *   SN_HEIGHT_OUT_OF_RANGE  place: the first such post
  *   SN_NO_SUCH_POST
  */
-SN_USE_ANSWER SN_READS(3, 4) SN_WRITES(6, 7)
-sn_ring_mark sn_ring(uint32_t rows, uint32_t columns,
+SN_USE_ANSWER SN_READS(1, 2) SN_READS(5, 6) SN_WRITES(8, 9)
+sn_ring_mark sn_ring(const uint8_t *sheet, size_t sheet_length,
+                     uint32_t rows, uint32_t columns,
                      const int32_t *heights, size_t heights_length,
                      uint32_t post,
                      uint8_t *ring, size_t ring_length);
@@ -287,21 +364,25 @@ sn_ring_mark sn_ring(uint32_t rows, uint32_t columns,
  * From a border post that is SN_VIRTUAL_PIT.
  * Next up: the highest neighbour, or the post itself if it is a peak.
  *
- * Reads   heights, rows * columns of them.
+ * Reads   sheet, and heights, rows * columns of them.
  * Writes  nothing.
  * Answers SN_OK, or in this order
+ *   SN_BAD_SHEET
+ *   SN_BAD_ENTRY
  *   SN_BAD_SIDES
  *   SN_BAD_HEIGHTS_LENGTH
  *   SN_HEIGHT_OUT_OF_RANGE  place: the first such post
  *   SN_NO_SUCH_POST
  */
-SN_USE_ANSWER SN_READS(3, 4)
-sn_next sn_next_down(uint32_t rows, uint32_t columns,
+SN_USE_ANSWER SN_READS(1, 2) SN_READS(5, 6)
+sn_next sn_next_down(const uint8_t *sheet, size_t sheet_length,
+                     uint32_t rows, uint32_t columns,
                      const int32_t *heights, size_t heights_length,
                      uint32_t post);
 
-SN_USE_ANSWER SN_READS(3, 4)
-sn_next sn_next_up(uint32_t rows, uint32_t columns,
+SN_USE_ANSWER SN_READS(1, 2) SN_READS(5, 6)
+sn_next sn_next_up(const uint8_t *sheet, size_t sheet_length,
+                   uint32_t rows, uint32_t columns,
                    const int32_t *heights, size_t heights_length,
                    uint32_t post);
 
@@ -311,10 +392,12 @@ sn_next sn_next_up(uint32_t rows, uint32_t columns,
  * Ridge (crest line) of a saddle and one of its upper runs: the saddle, the
  * highest member of the run, then next up until a peak.
  *
- * Reads   heights, rows * columns of them.
+ * Reads   sheet, and heights, rows * columns of them.
  * Writes  line[0] to line[count - 1]. Entries from count on keep their content.
  *         The list may have any length; SN_MAX_LINE always suffices.
  * Answers SN_OK, or in this order
+ *   SN_BAD_SHEET
+ *   SN_BAD_ENTRY
  *   SN_BAD_SIDES
  *   SN_BAD_HEIGHTS_LENGTH
  *   SN_HEIGHT_OUT_OF_RANGE  place: the first such post
@@ -323,14 +406,16 @@ sn_next sn_next_up(uint32_t rows, uint32_t columns,
  *   SN_NO_SUCH_RUN
  *   SN_LINE_TOO_LONG        SN_VIRTUAL_PIT counts as an entry
  */
-SN_USE_ANSWER SN_READS(3, 4) SN_WRITES(7, 8)
-sn_entries sn_thalweg(uint32_t rows, uint32_t columns,
+SN_USE_ANSWER SN_READS(1, 2) SN_READS(5, 6) SN_WRITES(9, 10)
+sn_entries sn_thalweg(const uint8_t *sheet, size_t sheet_length,
+                      uint32_t rows, uint32_t columns,
                       const int32_t *heights, size_t heights_length,
                       uint32_t post, uint32_t run,
                       uint16_t *line, size_t line_length);
 
-SN_USE_ANSWER SN_READS(3, 4) SN_WRITES(7, 8)
-sn_entries sn_ridge(uint32_t rows, uint32_t columns,
+SN_USE_ANSWER SN_READS(1, 2) SN_READS(5, 6) SN_WRITES(9, 10)
+sn_entries sn_ridge(const uint8_t *sheet, size_t sheet_length,
+                    uint32_t rows, uint32_t columns,
                     const int32_t *heights, size_t heights_length,
                     uint32_t post, uint32_t run,
                     uint16_t *line, size_t line_length);
@@ -339,16 +424,19 @@ sn_entries sn_ridge(uint32_t rows, uint32_t columns,
  * Dales and hills: names for each post the pit at which next down ends, or
  * SN_VIRTUAL_PIT, and the peak at which next up ends.
  *
- * Reads   heights, rows * columns of them.
+ * Reads   sheet, and heights, rows * columns of them.
  * Writes  dales and hills, as many each: every entry.
  * Answers SN_OK, or in this order
+ *   SN_BAD_SHEET
+ *   SN_BAD_ENTRY
  *   SN_BAD_SIDES
  *   SN_BAD_HEIGHTS_LENGTH
  *   SN_BAD_LIST_LENGTH      dales or hills are not rows * columns
  *   SN_HEIGHT_OUT_OF_RANGE  place: the first such post
  */
-SN_USE_ANSWER SN_READS(3, 4) SN_WRITES(5, 6) SN_WRITES(7, 8)
-sn_answer sn_dales_and_hills(uint32_t rows, uint32_t columns,
+SN_USE_ANSWER SN_READS(1, 2) SN_READS(5, 6) SN_WRITES(7, 8) SN_WRITES(9, 10)
+sn_answer sn_dales_and_hills(const uint8_t *sheet, size_t sheet_length,
+                             uint32_t rows, uint32_t columns,
                              const int32_t *heights, size_t heights_length,
                              uint16_t *dales, size_t dales_length,
                              uint16_t *hills, size_t hills_length);
