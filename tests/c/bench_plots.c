@@ -1,8 +1,8 @@
 /*
- * "Example plots" of docs/SPECIFICATION.md through the C calls. Compiles as C99 and
- * as C++. Every list is its own piece of the heap, exactly as long as lent, so that
- * a memory checker sees a byte too many; a ring's lies between guards, which are
- * looked at, so that it needs no checker.
+ * "Example plots" of docs/SPECIFICATION.md through the C calls, by both rules, and
+ * settings sheets. Compiles as C99 and as C++. Every list is its own piece of the heap,
+ * exactly as long as lent, so that a memory checker sees a byte too many; a ring's and a
+ * name's lie between guards, which are looked at, so that they need no checker.
  */
 #include "surface_network.h"
 
@@ -33,86 +33,197 @@ static void *lent(size_t size, const void *content)
     return list;
 }
 
+/* A settings sheet, and what sn_settings answers to it. */
+typedef struct {
+    size_t length;
+    uint8_t bytes[SN_MAX_SHEET + 1];
+    uint32_t code, rule;
+    const char *name;
+} sheet;
+
+enum { SHEETS = 37 };
+
+/* First those that are accepted: none, no entry, one of them, and the longest. Then those
+   that are not whole: cut off, of another version, with another count, with entries that do
+   not end where the sheet ends. Then those with a kind, a length or a value that no sheet
+   has. */
+static const sheet sheets[SHEETS] = {
+    {0, {0}, SN_OK, 1, ""},
+    {5, {1, 0, 0, 0, 0}, SN_OK, 1, ""},
+    {8, {1, 0, 0, 0, 3, 1, 1, 1}, SN_OK, 1, ""},
+    {8, {1, 0, 0, 0, 3, 1, 1, 2}, SN_OK, 2, ""},
+    {8, {1, 0, 0, 0, 3, 2, 1, 32}, SN_OK, 1, " "},
+    {14, {1, 0, 0, 0, 9, 1, 1, 2, 2, 4, 'p', 'o', 'n', 'd'}, SN_OK, 2, "pond"},
+    {42, {1, 0, 0, 0, 37, 1, 1, 1, 2, 32, 32, 32, 32, 32, 32, 32, 32, 32, 32, 32, 32, 32, 32, 32,
+          32, 126, 126, 126, 126, 126, 126, 126, 126, 126, 126, 126, 126, 126, 126, 126, 126, 126},
+     SN_OK, 1, "               ~~~~~~~~~~~~~~~~~"},
+
+    {1, {1}, SN_BAD_SHEET, 0, ""},
+    {4, {1, 0, 0, 0}, SN_BAD_SHEET, 0, ""},
+    {5, {0, 0, 0, 0, 0}, SN_BAD_SHEET, 0, ""},
+    {5, {2, 0, 0, 0, 0}, SN_BAD_SHEET, 0, ""},
+    {5, {1, 0, 0, 0, 1}, SN_BAD_SHEET, 0, ""},
+    {6, {1, 0, 0, 0, 0, 1}, SN_BAD_SHEET, 0, ""},
+    {8, {1, 0, 0, 0, 2, 1, 1, 1}, SN_BAD_SHEET, 0, ""},
+    {8, {1, 1, 0, 0, 3, 1, 1, 1}, SN_BAD_SHEET, 0, ""},
+    {8, {1, 3, 0, 0, 0, 1, 1, 1}, SN_BAD_SHEET, 0, ""},
+    {6, {1, 0, 0, 0, 1, 1}, SN_BAD_SHEET, 0, ""},
+    {9, {1, 0, 0, 0, 4, 1, 1, 1, 2}, SN_BAD_SHEET, 0, ""},
+    {7, {1, 0, 0, 0, 2, 1, 1}, SN_BAD_SHEET, 0, ""},
+    {8, {1, 0, 0, 0, 3, 2, 2, 32}, SN_BAD_SHEET, 0, ""},
+    {11, {1, 0, 0, 0, 6, 1, 1, 9, 2, 2, 32}, SN_BAD_SHEET, 0, ""},
+
+    {7, {1, 0, 0, 0, 2, 1, 0}, SN_BAD_ENTRY, 0, ""},
+    {9, {1, 0, 0, 0, 4, 1, 2, 1, 1}, SN_BAD_ENTRY, 0, ""},
+    {8, {1, 0, 0, 0, 3, 1, 1, 0}, SN_BAD_ENTRY, 0, ""},
+    {8, {1, 0, 0, 0, 3, 1, 1, 3}, SN_BAD_ENTRY, 0, ""},
+    {7, {1, 0, 0, 0, 2, 0, 0}, SN_BAD_ENTRY, 0, ""},
+    {8, {1, 0, 0, 0, 3, 0, 1, 1}, SN_BAD_ENTRY, 0, ""},
+    {7, {1, 0, 0, 0, 2, 3, 0}, SN_BAD_ENTRY, 0, ""},
+    {8, {1, 0, 0, 0, 3, 255, 1, 1}, SN_BAD_ENTRY, 0, ""},
+    {11, {1, 0, 0, 0, 6, 1, 1, 1, 1, 1, 1}, SN_BAD_ENTRY, 0, ""},
+    {11, {1, 0, 0, 0, 6, 2, 1, 32, 2, 1, 32}, SN_BAD_ENTRY, 0, ""},
+    {11, {1, 0, 0, 0, 6, 2, 1, 32, 1, 1, 1}, SN_BAD_ENTRY, 0, ""},
+    {7, {1, 0, 0, 0, 2, 2, 0}, SN_BAD_ENTRY, 0, ""},
+    {40, {1, 0, 0, 0, 35, 2, 33, 32, 32, 32, 32, 32, 32, 32, 32, 32, 32, 32, 32, 32, 32, 32, 32, 32,
+          32, 32, 32, 32, 32, 32, 32, 32, 32, 32, 32, 32, 32, 32, 32, 32},
+     SN_BAD_ENTRY, 0, ""},
+    {8, {1, 0, 0, 0, 3, 2, 1, 31}, SN_BAD_ENTRY, 0, ""},
+    {9, {1, 0, 0, 0, 4, 2, 2, 32, 127}, SN_BAD_ENTRY, 0, ""},
+    {8, {1, 0, 0, 0, 3, 2, 1, 160}, SN_BAD_ENTRY, 0, ""}
+};
+
+/* A sheet on the heap. */
+static uint8_t *lent_sheet(const sheet *s)
+{
+    return (uint8_t *)lent(s->length, s->bytes);
+}
+
+/* The first sheet that means a rule. */
+static const sheet *meaning(uint32_t rule)
+{
+    const sheet *s = sheets;
+    while (s->rule != rule)
+        s++;
+    return s;
+}
+
 typedef struct {
     const char *name;
-    uint32_t rows, columns;
+    uint32_t rule, rows, columns;
     int32_t heights[9];
     uint8_t marks[9];
     uint32_t peaks, pits, saddles;
     const char *rings[9]; /* a digit for each member of a post's ring */
     uint32_t k[9];
+    uint16_t dales[9], hills[9];
 } plot;
 
-static const plot flat = {"flat", 2, 2, {0, 0, 0, 0}, {0, 0, 0, 1}, 1, 1, 0,
-                          {"3222", "324", "423", "4344"}, {1, 1, 1, 1}};
-static const plot crossed = {"crossed", 2, 2, {5, 0, 0, 5}, {1, 0, 3, 1}, 2, 1, 1,
-                             {"333", "3121", "1413", "333"}, {1, 1, 2, 1}};
-static const plot star = {"star", 3, 3, {0, 2, 0, 2, 1, 2, 0, 2, 0},
+enum { PLOTS = 9, V = SN_VIRTUAL_PIT };
+
+static const plot flat = {"flat", 1, 2, 2, {0, 0, 0, 0}, {0, 0, 0, 1}, 1, 1, 0,
+                          {"3222", "324", "423", "4344"}, {1, 1, 1, 1},
+                          {V, V, V, V}, {3, 3, 3, 3}};
+static const plot crossed = {"crossed", 1, 2, 2, {5, 0, 0, 5}, {1, 0, 3, 1}, 2, 1, 1,
+                             {"333", "3121", "1413", "333"}, {1, 1, 2, 1},
+                             {V, V, V, V}, {0, 3, 3, 3}};
+static const plot star = {"star", 1, 3, 3, {0, 2, 0, 2, 1, 2, 0, 2, 0},
                           {0, 1, 0, 1, 5, 1, 0, 1, 0}, 4, 1, 3,
                           {"3111", "3333", "3111", "3333", "13131313", "3333", "1113", "3333",
-                           "1311"}, {1, 1, 1, 1, 4, 1, 1, 1, 1}};
-static const plot hollow = {"hollow", 3, 3, {1, 1, 1, 1, 0, 1, 1, 1, 1},
+                           "1311"}, {1, 1, 1, 1, 4, 1, 1, 1, 1},
+                          {V, V, V, V, V, V, V, V, V}, {3, 1, 5, 3, 7, 5, 7, 7, 7}};
+static const plot hollow = {"hollow", 1, 3, 3, {1, 1, 1, 1, 0, 1, 1, 1, 1},
                             {3, 0, 0, 0, 2, 0, 0, 0, 1}, 1, 2, 1,
                             {"3232", "3234", "3234", "4323", "11111111", "4323", "4323", "3234",
-                             "4343"}, {2, 1, 1, 1, 0, 1, 1, 1, 1}};
-static const plot runs = {"runs", 3, 3, {0, 3, 9, 2, 5, 7, 6, 8, 1},
+                             "4343"}, {2, 1, 1, 1, 0, 1, 1, 1, 1},
+                            {V, V, V, V, 4, V, V, V, V}, {8, 8, 8, 8, 8, 8, 8, 8, 8}};
+static const plot runs = {"runs", 1, 3, 3, {0, 3, 9, 2, 5, 7, 6, 8, 1},
                           {0, 0, 1, 0, 3, 0, 0, 1, 0}, 2, 1, 1,
                           {"3111", "31113", "333", "31113", "313133", "13333", "313", "33333",
-                           "1311"}, {1, 1, 1, 1, 2, 1, 1, 1, 1}};
+                           "1311"}, {1, 1, 1, 1, 2, 1, 1, 1, 1},
+                          {V, V, V, V, V, V, V, V, V}, {7, 2, 2, 7, 7, 2, 7, 7, 7}};
+
+/* By rule 2 the diagonal of flat is the same, and that of crossed joins posts 0 and 3. In star
+   they are 1-3, 1-5, 3-7 and 5-7, a square round post 4; in hollow 1-3, 1-5, 3-7 and 4-8. */
+static const plot flat_2 = {"flat, rule 2", 2, 2, 2, {0, 0, 0, 0}, {0, 0, 0, 1}, 1, 1, 0,
+                            {"3222", "324", "423", "4344"}, {1, 1, 1, 1},
+                            {V, V, V, V}, {3, 3, 3, 3}};
+static const plot crossed_2 = {"crossed, rule 2", 2, 2, 2, {5, 0, 0, 5}, {0, 0, 0, 1}, 1, 1, 0,
+                               {"3323", "311", "113", "3334"}, {1, 1, 1, 1},
+                               {V, V, V, V}, {3, 3, 3, 3}};
+static const plot star_2 = {"star, rule 2", 2, 3, 3, {0, 2, 0, 2, 1, 2, 0, 2, 0},
+                            {0, 3, 0, 0, 2, 0, 0, 1, 0}, 1, 2, 1,
+                            {"311", "332323", "311", "343233", "1111", "333234", "113", "343334",
+                             "131"}, {1, 2, 1, 1, 0, 1, 1, 1, 1},
+                            {V, V, V, V, 4, V, V, V, V}, {7, 7, 7, 7, 7, 7, 7, 7, 7}};
+static const plot hollow_2 = {"hollow, rule 2", 2, 3, 3, {1, 1, 1, 1, 0, 1, 1, 1, 1},
+                              {0, 3, 0, 0, 2, 0, 0, 0, 1}, 1, 2, 1,
+                              {"322", "322324", "324", "443223", "11111", "43234", "423", "32344",
+                               "4343"}, {1, 2, 1, 1, 0, 1, 1, 1, 1},
+                              {V, V, V, V, 4, V, V, V, V}, {8, 8, 8, 8, 8, 8, 8, 8, 8}};
 
 static size_t posts_of(const plot *p)
 {
     return (size_t)p->rows * p->columns;
 }
 
-static void survey(const plot *p)
+static void survey(const plot *p, const sheet *s)
 {
     size_t n = posts_of(p);
+    uint8_t *bytes = lent_sheet(s);
     int32_t *heights = (int32_t *)lent(n * sizeof *heights, p->heights);
     uint8_t *marks = (uint8_t *)lent(n, NULL);
     sn_counts got;
 
     memset(marks, 99, n);
-    got = sn_survey(p->rows, p->columns, heights, n, marks, n);
+    got = sn_survey(bytes, s->length, p->rows, p->columns, heights, n, marks, n);
     check(got.code == SN_OK && got.place == 0, p->name);
     check(got.peaks == p->peaks && got.pits == p->pits && got.saddles == p->saddles, p->name);
     check(memcmp(marks, p->marks, n) == 0, p->name);
     check(memcmp(heights, p->heights, n * sizeof *heights) == 0, p->name);
 
-    got = sn_survey(p->rows, p->columns, heights, n, marks, n - 1);
+    got = sn_survey(bytes, s->length, p->rows, p->columns, heights, n, marks, n - 1);
     check(got.code == SN_BAD_LIST_LENGTH && got.peaks == 0, "marks one short");
-    got = sn_survey(p->rows, p->columns, heights, n - 1, marks, n);
+    got = sn_survey(bytes, s->length, p->rows, p->columns, heights, n - 1, marks, n);
     check(got.code == SN_BAD_HEIGHTS_LENGTH && got.pits == 0, "heights one short");
     check(memcmp(marks, p->marks, n) == 0, "a refused survey leaves the marks");
+    free(bytes);
     free(heights);
     free(marks);
 }
 
-/* From a level plot to this one, post by post, with refused calls between. */
-static void reshoots(const plot *p)
+/* From a level plot to this one, post by post, with refused calls between. The survey and the
+   re-shoots may have other sheets: it is the rule that is one. */
+static void reshoots(const plot *p, const sheet *s)
 {
     size_t n = posts_of(p);
+    const sheet *other = meaning(p->rule);
+    uint8_t *bytes = lent_sheet(s), *others = lent_sheet(other);
     int32_t *heights = (int32_t *)lent(n * sizeof *heights, NULL);
     uint8_t *marks = (uint8_t *)lent(n, NULL);
     uint8_t *fresh = (uint8_t *)lent(n, NULL);
-    sn_counts counts = sn_survey(p->rows, p->columns, heights, n, marks, n);
+    sn_counts counts = sn_survey(others, other->length, p->rows, p->columns, heights, n, marks, n);
     uint32_t post;
 
     check(counts.code == SN_OK, "survey of level ground");
     for (post = 0; post < n; post++) {
-        sn_answer got = sn_reshoot(p->rows, p->columns, heights, n, marks, n,
+        sn_answer got = sn_reshoot(bytes, s->length, p->rows, p->columns, heights, n, marks, n,
                                    post, p->heights[post]);
         check(got.code == SN_OK && got.place == 0, "a re-shoot is accepted");
-        got = sn_reshoot(p->rows, p->columns, heights, n, marks, n, (uint32_t)n, 0);
+        got = sn_reshoot(bytes, s->length, p->rows, p->columns, heights, n, marks, n,
+                         (uint32_t)n, 0);
         check(got.code == SN_NO_SUCH_POST, "no such post");
-        got = sn_reshoot(p->rows, p->columns, heights, n, marks, n, post, SN_MAX_HEIGHT + 1);
+        got = sn_reshoot(bytes, s->length, p->rows, p->columns, heights, n, marks, n, post,
+                         SN_MAX_HEIGHT + 1);
         check(got.code == SN_BAD_NEW_HEIGHT, "new height out of range");
-        counts = sn_survey(p->rows, p->columns, heights, n, fresh, n);
+        counts = sn_survey(others, other->length, p->rows, p->columns, heights, n, fresh, n);
         check(counts.peaks + counts.pits == counts.saddles + 2, "the balance");
         check(memcmp(marks, fresh, n) == 0, "marks as after a fresh survey");
     }
     check(memcmp(heights, p->heights, n * sizeof *heights) == 0, p->name);
     check(memcmp(marks, p->marks, n) == 0, p->name);
+    free(bytes);
+    free(others);
     free(heights);
     free(marks);
     free(fresh);
@@ -120,54 +231,64 @@ static void reshoots(const plot *p)
 
 enum { GUARD = 16, UNTOUCHED = 77 };
 
-/* Has the list between two guards these codes and zeros after them, or without codes its
-   old content? Are the guards as they were? */
-static int has_codes(const uint8_t *guarded, size_t length, const char *codes)
+/* Has the list between two guards these characters, as far as they are past a first one, and
+   zeros after them, or without characters its old content? Are the guards as they were? */
+static int has_text(const uint8_t *guarded, size_t length, const char *text, char first)
 {
-    size_t i, members = codes ? strlen(codes) : 0;
+    size_t i, size = text ? strlen(text) : 0;
 
     for (i = 0; i < length + 2 * GUARD; i++) {
         int expected = UNTOUCHED;
-        if (codes && i >= GUARD && i < GUARD + length)
-            expected = i < GUARD + members ? codes[i - GUARD] - '0' : SN_NO_MEMBER;
+        if (text && i >= GUARD && i < GUARD + length)
+            expected = i < GUARD + size ? text[i - GUARD] - first : 0;
         if (guarded[i] != expected)
             return 0;
     }
     return 1;
 }
 
+static int has_codes(const uint8_t *guarded, size_t length, const char *codes)
+{
+    return has_text(guarded, length, codes, '0');
+}
+
 /* One ring into a list of some length; the codes expected, null where it is refused. */
-static void ring(const plot *p, uint32_t post, size_t length, uint32_t code, const char *codes,
-                 uint32_t k, uint32_t mark, const char *what)
+static void ring(const plot *p, const sheet *s, uint32_t post, size_t length, uint32_t code,
+                 const char *codes, uint32_t k, uint32_t mark, const char *what)
 {
     size_t n = posts_of(p);
+    uint8_t *bytes = lent_sheet(s);
     int32_t *heights = (int32_t *)lent(n * sizeof *heights, p->heights);
     uint8_t *list = (uint8_t *)lent(length + 2 * GUARD, NULL);
     sn_ring_mark got;
 
     memset(list, UNTOUCHED, length + 2 * GUARD);
-    got = sn_ring(p->rows, p->columns, heights, n, post, list + GUARD, length);
+    got = sn_ring(bytes, s->length, p->rows, p->columns, heights, n, post, list + GUARD, length);
     check(got.code == code && got.place == 0, what);
     check(got.k == k && got.mark == mark, what);
     check(has_codes(list, length, codes), what);
     check(memcmp(heights, p->heights, n * sizeof *heights) == 0, what);
+    free(bytes);
     free(heights);
     free(list);
 }
 
 /* The ring of every post, and of some that are not there. */
-static void rings(const plot *p)
+static void rings(const plot *p, const sheet *s)
 {
     static const size_t lengths[3] = {0, SN_RING_LENGTH - 1, SN_RING_LENGTH + 1};
     uint32_t post, n = (uint32_t)posts_of(p), beyond[3] = {n, SN_VIRTUAL_PIT, UINT32_MAX};
     int i;
 
     for (post = 0; post < n; post++)
-        ring(p, post, SN_RING_LENGTH, SN_OK, p->rings[post], p->k[post], p->marks[post], p->name);
+        ring(p, s, post, SN_RING_LENGTH, SN_OK, p->rings[post], p->k[post], p->marks[post],
+             p->name);
     for (i = 0; i < 3; i++) {
-        ring(p, 0, lengths[i], SN_BAD_LIST_LENGTH, NULL, 0, 0, "not eight bytes");
-        ring(p, beyond[i], lengths[i], SN_BAD_LIST_LENGTH, NULL, 0, 0, "the list before the post");
-        ring(p, beyond[i], SN_RING_LENGTH, SN_NO_SUCH_POST, NULL, 0, 0, "no ring without a post");
+        ring(p, s, 0, lengths[i], SN_BAD_LIST_LENGTH, NULL, 0, 0, "not eight bytes");
+        ring(p, s, beyond[i], lengths[i], SN_BAD_LIST_LENGTH, NULL, 0, 0,
+             "the list before the post");
+        ring(p, s, beyond[i], SN_RING_LENGTH, SN_NO_SUCH_POST, NULL, 0, 0,
+             "no ring without a post");
     }
 }
 
@@ -179,21 +300,21 @@ static void refused_rings(void)
     sn_ring_mark got;
 
     memset(guarded, UNTOUCHED, sizeof guarded);
-    got = sn_ring(2, 2, heights, 4, 4, list, SN_RING_LENGTH);
+    got = sn_ring(SN_NO_SHEET, 2, 2, heights, 4, 4, list, SN_RING_LENGTH);
     check(got.code == SN_HEIGHT_OUT_OF_RANGE && got.place == 2, "a height before the post");
     check(got.k == 0 && got.mark == 0, "nothing of a refused ring");
-    got = sn_ring(2, 2, heights, 4, 4, NULL, 0);
+    got = sn_ring(SN_NO_SHEET, 2, 2, heights, 4, 4, NULL, 0);
     check(got.code == SN_BAD_LIST_LENGTH && got.place == 0, "a list before the heights");
-    got = sn_ring(2, 2, heights, 3, 4, NULL, 0);
+    got = sn_ring(SN_NO_SHEET, 2, 2, heights, 3, 4, NULL, 0);
     check(got.code == SN_BAD_HEIGHTS_LENGTH, "heights one short");
-    got = sn_ring(2, 2, NULL, 0, 4, list, SN_RING_LENGTH);
+    got = sn_ring(SN_NO_SHEET, 2, 2, NULL, 0, 4, list, SN_RING_LENGTH);
     check(got.code == SN_BAD_HEIGHTS_LENGTH, "no heights");
-    got = sn_ring(1, 121, NULL, 0, 4, NULL, 0);
+    got = sn_ring(SN_NO_SHEET, 1, 121, NULL, 0, 4, NULL, 0);
     check(got.code == SN_BAD_SIDES, "sides before lists");
     check(has_codes(guarded, SN_RING_LENGTH, NULL), "a refused ring leaves its list");
 }
 
-typedef sn_entries line_call(uint32_t, uint32_t, const int32_t *, size_t,
+typedef sn_entries line_call(const uint8_t *, size_t, uint32_t, uint32_t, const int32_t *, size_t,
                              uint32_t, uint32_t, uint16_t *, size_t);
 
 /* One line into a list of some length; the entries expected, 7 where untouched. */
@@ -203,23 +324,25 @@ static void line(line_call *call, const plot *p, uint32_t post, uint32_t run, si
 {
     size_t n = posts_of(p), i;
     const uint16_t expected[3] = {a, b, c};
+    const sheet *s = meaning(p->rule);
+    uint8_t *bytes = lent_sheet(s);
     int32_t *heights = (int32_t *)lent(n * sizeof *heights, p->heights);
     uint16_t *list = (uint16_t *)lent(length * sizeof *list, NULL);
     sn_entries got;
 
     for (i = 0; i < length; i++)
         list[i] = 7;
-    got = call(p->rows, p->columns, heights, n, post, run, list, length);
+    got = call(bytes, s->length, p->rows, p->columns, heights, n, post, run, list, length);
     check(got.code == code && got.place == 0 && got.count == count, what);
     for (i = 0; i < length; i++)
         check(list[i] == (i < 3 ? expected[i] : 7), what);
+    free(bytes);
     free(heights);
     free(list);
 }
 
 static void lines(void)
 {
-    const uint16_t V = SN_VIRTUAL_PIT;
     static const uint16_t peaks[4] = {1, 5, 7, 3}, pits[4] = {2, 8, 6, 0};
     uint32_t run;
 
@@ -239,6 +362,22 @@ static void lines(void)
         line(sn_thalweg, &star, 4, run, 4, SN_OK, 3, 4, pits[run], V, "star, water line");
     }
     line(sn_ridge, &star, 4, 4, 2, SN_NO_SUCH_RUN, 0, 7, 7, 7, "star, run 4");
+}
+
+/* By rule 2 post 1 of star and of hollow is the saddle, and post 4 the pit. */
+static void lines_2(void)
+{
+    line(sn_thalweg, &crossed_2, 2, 0, 3, SN_NOT_A_SADDLE, 0, 7, 7, 7, "crossed, no saddle");
+    line(sn_thalweg, &star_2, 4, 0, 3, SN_NOT_A_SADDLE, 0, 7, 7, 7, "star, no saddle");
+    line(sn_thalweg, &star_2, 1, 0, 3, SN_OK, 2, 1, 4, 7, "star, to the pit");
+    line(sn_thalweg, &star_2, 1, 1, 3, SN_OK, 2, 1, V, 7, "star, over the border");
+    line(sn_thalweg, &star_2, 1, 2, 3, SN_NO_SUCH_RUN, 0, 7, 7, 7, "star, run 2");
+    line(sn_ridge, &star_2, 1, 0, 3, SN_OK, 3, 1, 5, 7, "star, to the peak");
+    line(sn_ridge, &star_2, 1, 1, 4, SN_OK, 3, 1, 3, 7, "star, to the same peak");
+    line(sn_ridge, &star_2, 1, 1, 2, SN_LINE_TOO_LONG, 0, 7, 7, 7, "star, a list of two");
+    line(sn_thalweg, &hollow_2, 1, 0, 3, SN_OK, 2, 1, 4, 7, "hollow, to the pit");
+    line(sn_ridge, &hollow_2, 1, 0, 3, SN_OK, 3, 1, 5, 8, "hollow, to the peak");
+    line(sn_ridge, &hollow_2, 1, 1, 3, SN_LINE_TOO_LONG, 0, 7, 7, 7, "hollow, four entries");
 }
 
 /* Reads a 2 by 2 file of these tenths. */
@@ -323,11 +462,11 @@ static void sides(void)
             int good = i % 3 != 0 && j % 3 != 0;
             int32_t *heights = (int32_t *)lent(n * sizeof *heights, NULL);
             uint8_t *marks = (uint8_t *)lent(n, NULL);
-            sn_counts got = sn_survey(rows, columns, heights, n, marks, n);
-            sn_answer shot = sn_reshoot(rows, columns, heights, n, marks, n, 0, 1);
+            sn_counts got = sn_survey(SN_NO_SHEET, rows, columns, heights, n, marks, n);
+            sn_answer shot = sn_reshoot(SN_NO_SHEET, rows, columns, heights, n, marks, n, 0, 1);
             uint8_t list[SN_RING_LENGTH];
-            sn_ring_mark last = sn_ring(rows, columns, heights, n, (uint32_t)n - 1, list,
-                                        SN_RING_LENGTH);
+            sn_ring_mark last = sn_ring(SN_NO_SHEET, rows, columns, heights, n, (uint32_t)n - 1,
+                                        list, SN_RING_LENGTH);
 
             check(got.code == (good ? (uint32_t)SN_OK : (uint32_t)SN_BAD_SIDES), "sides");
             check(got.peaks + got.pits == (good ? got.saddles + 2 : 0), "balance");
@@ -338,44 +477,136 @@ static void sides(void)
         }
 }
 
-/* The walks of the hollow, and its dales and hills. */
-static void walks(void)
+/* The dales and hills of a plot. */
+static void parts(const plot *p, const sheet *s)
 {
-    static const uint16_t dale[9] = {65535, 65535, 65535, 65535, 4, 65535, 65535, 65535, 65535};
-    uint16_t *dales = (uint16_t *)lent(sizeof dale, NULL);
-    uint16_t *hills = (uint16_t *)lent(sizeof dale, NULL);
-    sn_next down = sn_next_down(3, 3, hollow.heights, 9, 4);
-    sn_next up = sn_next_up(3, 3, hollow.heights, 9, 4);
-    sn_answer got = sn_dales_and_hills(3, 3, hollow.heights, 9, dales, 9, hills, 9);
-    int i;
+    size_t n = posts_of(p);
+    uint8_t *bytes = lent_sheet(s);
+    uint16_t *dales = (uint16_t *)lent(n * sizeof *dales, NULL);
+    uint16_t *hills = (uint16_t *)lent(n * sizeof *hills, NULL);
+    sn_answer got = sn_dales_and_hills(bytes, s->length, p->rows, p->columns, p->heights, n,
+                                       dales, n, hills, n);
 
-    check(down.code == SN_OK && down.post == 4, "a pit stays");
-    check(up.code == SN_OK && up.post == 8, "up from the hollow");
-    down = sn_next_down(3, 3, hollow.heights, 9, 5);
-    check(down.code == SN_OK && down.post == SN_VIRTUAL_PIT, "down from the border");
-    up = sn_next_up(3, 3, hollow.heights, 9, 8);
-    check(up.code == SN_OK && up.post == 8, "a peak stays");
-    up = sn_next_up(3, 3, hollow.heights, 9, 9);
-    check(up.code == SN_NO_SUCH_POST && up.post == 0, "no such post");
-    check(got.code == SN_OK && memcmp(dales, dale, sizeof dale) == 0, "dales of the hollow");
-    for (i = 0; i < 9; i++)
-        check(hills[i] == 8, "one hill");
+    check(got.code == SN_OK && got.place == 0, p->name);
+    check(memcmp(dales, p->dales, n * sizeof *dales) == 0, p->name);
+    check(memcmp(hills, p->hills, n * sizeof *hills) == 0, p->name);
+    free(bytes);
     free(dales);
     free(hills);
 }
 
-int main(void)
+/* A step down and a step up from a post. */
+static void next(const plot *p, uint32_t post, uint32_t down, uint32_t up, const char *what)
 {
-    const plot *const plots[5] = {&flat, &crossed, &star, &hollow, &runs};
+    const sheet *s = meaning(p->rule);
+    sn_next got = sn_next_down(s->bytes, s->length, p->rows, p->columns, p->heights, posts_of(p),
+                               post);
+
+    check(got.code == SN_OK && got.place == 0 && got.post == down, what);
+    got = sn_next_up(s->bytes, s->length, p->rows, p->columns, p->heights, posts_of(p), post);
+    check(got.code == SN_OK && got.place == 0 && got.post == up, what);
+}
+
+static void walks(void)
+{
+    sn_next up = sn_next_up(SN_NO_SHEET, 3, 3, hollow.heights, 9, 9);
+
+    check(up.code == SN_NO_SUCH_POST && up.post == 0, "no such post");
+    next(&hollow, 4, 4, 8, "a pit stays, and rises to the last corner");
+    next(&hollow, 5, V, 8, "from the border");
+    next(&hollow, 8, V, 8, "a peak stays");
+    next(&hollow, 0, V, 3, "from a corner to its last neighbour");
+    next(&hollow_2, 1, V, 5, "along a diagonal by rule 2");
+    next(&hollow_2, 3, V, 7, "along another");
+    next(&star, 4, 0, 7, "down to a corner");
+    next(&star_2, 4, 4, 7, "no corner by rule 2");
+    next(&runs, 0, V, 4, "up a diagonal");
+    next(&runs, 4, 0, 7, "past a diagonal");
+    next(&crossed, 0, V, 0, "a peak");
+    next(&crossed_2, 0, V, 3, "no peak by rule 2");
+}
+
+/* What a sheet says, into lists of three lengths: 13 and 14 go before 3. */
+static void settings(const sheet *s)
+{
+    size_t length, size = strlen(s->name);
+
+    for (length = SN_MAX_NAME - 1; length <= SN_MAX_NAME + 1; length++) {
+        int fits = length == SN_MAX_NAME, good = fits && s->code == SN_OK;
+        uint32_t code = s->code || fits ? s->code : (uint32_t)SN_BAD_LIST_LENGTH;
+        uint8_t *bytes = lent_sheet(s), *list = (uint8_t *)lent(length + 2 * GUARD, NULL);
+        sn_sheet got;
+
+        memset(list, UNTOUCHED, length + 2 * GUARD);
+        got = sn_settings(bytes, s->length, list + GUARD, length);
+        check(got.code == code && got.place == 0, "settings, code");
+        check(got.rule == (good ? s->rule : 0), "settings, rule");
+        check(got.name_length == (good ? size : 0), "settings, length of the name");
+        check(has_text(list, length, good ? s->name : NULL, 0), "settings, name");
+        free(bytes);
+        free(list);
+    }
+}
+
+/* A sheet that is refused is refused by every call that takes one, whatever else is wrong:
+   the first time nothing is, then the post and the run, then the sides and all lists. */
+static void refused_sheet(const sheet *s)
+{
+    static const uint32_t rows[3] = {2, 2, 1}, posts[3] = {2, 9, 9};
+    static const size_t lengths[3] = {4, 4, 3};
+    uint8_t *b = lent_sheet(s), marks[4] = {7, 7, 7, 7}, ring_list[SN_RING_LENGTH] = {7};
+    int32_t heights[4] = {5, 0, 0, 5};
+    uint16_t dales[4] = {7, 7, 7, 7}, hills[4] = {7, 7, 7, 7};
     int i;
 
-    for (i = 0; i < 5; i++) {
-        survey(plots[i]);
-        reshoots(plots[i]);
-        rings(plots[i]);
+    for (i = 0; i < 3; i++) {
+        uint32_t r = rows[i], p = posts[i];
+        size_t n = lengths[i], l = s->length;
+        sn_counts counts = sn_survey(b, l, r, 2, heights, n, marks, n);
+        sn_ring_mark shown = sn_ring(b, l, r, 2, heights, n, p, ring_list, 2 * n);
+        sn_next down = sn_next_down(b, l, r, 2, heights, n, p);
+        sn_next up = sn_next_up(b, l, r, 2, heights, n, p);
+        sn_entries water = sn_thalweg(b, l, r, 2, heights, n, p, p, dales, n);
+        sn_entries crest = sn_ridge(b, l, r, 2, heights, n, p, p, hills, n);
+        check(counts.code == s->code && !counts.place && !counts.pits, "survey, its sheet");
+        check(sn_reshoot(b, l, r, 2, heights, n, marks, n, p, 1).code == s->code,
+              "re-shoot, its sheet");
+        check(shown.code == s->code && !shown.place && !shown.k, "ring, its sheet");
+        check(down.code == s->code && !down.place && !down.post, "next down, its sheet");
+        check(up.code == s->code && !up.place && !up.post, "next up, its sheet");
+        check(water.code == s->code && !water.place && !water.count, "thalweg, its sheet");
+        check(crest.code == s->code && !crest.place && !crest.count, "ridge, its sheet");
+        check(sn_dales_and_hills(b, l, r, 2, heights, n, dales, n, hills, n).code == s->code,
+              "dales and hills, their sheet");
+    }
+    check(memcmp(heights, crossed.heights, sizeof heights) == 0, "no height is changed");
+    for (i = 0; i < 4; i++)
+        check(marks[i] == 7 && dales[i] == 7 && hills[i] == 7, "no list is changed");
+    check(ring_list[0] == 7 && ring_list[1] == 0, "no ring is changed");
+    free(b);
+}
+
+int main(void)
+{
+    const plot *const plots[PLOTS] = {&flat, &crossed, &star, &hollow, &runs,
+                                      &flat_2, &crossed_2, &star_2, &hollow_2};
+    int i, j;
+
+    for (j = 0; j < SHEETS; j++) {
+        settings(&sheets[j]);
+        if (sheets[j].code != SN_OK)
+            refused_sheet(&sheets[j]);
+        for (i = 0; i < PLOTS; i++)
+            if (plots[i]->rule == sheets[j].rule) {
+                survey(plots[i], &sheets[j]);
+                reshoots(plots[i], &sheets[j]);
+                rings(plots[i], &sheets[j]);
+                parts(plots[i], &sheets[j]);
+            }
     }
     refused_rings();
     lines();
+    lines_2();
     files();
     round_trip();
     sides();

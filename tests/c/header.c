@@ -1,6 +1,7 @@
 /*
  * What the header has beside the calls: version, sizes, codes in words, what a mark
- * says, and a ring's codes. Compiles as C89 and later and as C++, and so without a C cast.
+ * says, a ring's codes, and a sheet's numbers. Compiles as C89 and later and as C++, and so
+ * without a C cast.
  */
 #include "surface_network.h"
 
@@ -46,12 +47,51 @@ static void codes(void)
 {
     uint32_t code, other;
 
-    for (code = 0; code <= SN_BAD_COUNT + 1; code++) {
+    for (code = 0; code <= SN_BAD_ENTRY + 1; code++) {
         check(strlen(sn_code_text(code)) > 5, "a code has words");
         for (other = 0; other < code; other++)
             check(strcmp(sn_code_text(code), sn_code_text(other)) != 0, "words of its own");
     }
-    check(strcmp(sn_code_text(SN_BAD_COUNT + 1), sn_code_text(UINT32_MAX)) == 0, "no such code");
+    check(strcmp(sn_code_text(SN_BAD_ENTRY + 1), sn_code_text(UINT32_MAX)) == 0, "no such code");
+    check(SN_BAD_SHEET == 13 && SN_BAD_ENTRY == 14, "the codes of a sheet");
+    check(strcmp(sn_code_text(13), "the settings sheet is not whole") == 0, "words of 13");
+    check(strcmp(sn_code_text(14), "the settings sheet has an entry that it may not have") == 0,
+          "words of 14");
+}
+
+/* The numbers of a sheet; its answer is four words and no more. */
+static void sheets_alone(void)
+{
+    check(SN_SHEET_VERSION == 1 && SN_SHEET_HEADER == 5, "what a sheet begins with");
+    check(SN_ENTRY_RULE == 1 && SN_ENTRY_NAME == 2, "kinds of entries");
+    check(SN_THROUGH_LOWEST == 1 && SN_THROUGH_HIGHEST == 2, "rules");
+    check(SN_DEFAULT_RULE == SN_THROUGH_LOWEST, "the rule where none is named");
+    check(SN_MAX_NAME == 32, "the longest name");
+    check(SN_MAX_SHEET == SN_SHEET_HEADER + 3 + 2 + SN_MAX_NAME, "the longest sheet");
+    check(offsetof(sn_sheet, code) == 0 && offsetof(sn_sheet, place) == 4, "code and place");
+    check(offsetof(sn_sheet, rule) == 8 && offsetof(sn_sheet, name_length) == 12,
+          "rule and length of the name");
+    check(sizeof(sn_sheet) == 16, "the size of a sheet's answer");
+}
+
+/* The longest sheet, and none. */
+static void settings(void)
+{
+    static const uint8_t entries[10] = {SN_SHEET_VERSION, 0, 0, 0, SN_MAX_SHEET - SN_SHEET_HEADER,
+                                        SN_ENTRY_RULE, 1, SN_THROUGH_HIGHEST,
+                                        SN_ENTRY_NAME, SN_MAX_NAME};
+    uint8_t sheet[SN_MAX_SHEET], name[SN_MAX_NAME];
+    sn_sheet said;
+
+    memset(sheet, 'x', sizeof sheet);
+    memcpy(sheet, entries, sizeof entries);
+    said = sn_settings(sheet, SN_MAX_SHEET, name, SN_MAX_NAME);
+    check(said.code == SN_OK && said.rule == SN_THROUGH_HIGHEST, "the rule of a sheet");
+    check(said.name_length == SN_MAX_NAME && memcmp(name, sheet + 10, SN_MAX_NAME) == 0,
+          "the name of a sheet");
+    said = sn_settings(SN_NO_SHEET, name, SN_MAX_NAME);
+    check(said.code == SN_OK && said.rule == SN_DEFAULT_RULE, "the rule of no sheet");
+    check(said.name_length == 0 && name[0] == 0 && name[SN_MAX_NAME - 1] == 0, "no name");
 }
 
 static void marks_alone(void)
@@ -74,8 +114,8 @@ static void lines_of(const int32_t *heights, uint32_t post, uint8_t mark)
     sn_entries down, up;
 
     for (run = 0; run <= runs; run++) {
-        down = sn_thalweg(3, 3, heights, 9, post, run, line, 10);
-        up = sn_ridge(3, 3, heights, 9, post, run, line, 10);
+        down = sn_thalweg(SN_NO_SHEET, 3, 3, heights, 9, post, run, line, 10);
+        up = sn_ridge(SN_NO_SHEET, 3, 3, heights, 9, post, run, line, 10);
         check(down.code == (run < runs ? 0 : end), "a thalweg for each run");
         check(up.code == (run < runs ? 0 : end), "a ridge for each run");
     }
@@ -102,7 +142,7 @@ static void ring_of(const int32_t *heights, uint32_t post, uint8_t mark)
 {
     uint8_t ring[SN_RING_LENGTH];
     uint32_t i, members = 0, starts = 0, above = 0;
-    sn_ring_mark got = sn_ring(3, 3, heights, 9, post, ring, SN_RING_LENGTH);
+    sn_ring_mark got = sn_ring(SN_NO_SHEET, 3, 3, heights, 9, post, ring, SN_RING_LENGTH);
 
     while (members < SN_RING_LENGTH && ring[members] != SN_NO_MEMBER)
         members++;
@@ -124,7 +164,7 @@ static void marks_of(const int32_t *heights, uint8_t middle)
 {
     uint8_t marks[9];
     uint32_t post, sum = 0;
-    sn_counts counts = sn_survey(3, 3, heights, 9, marks, 9);
+    sn_counts counts = sn_survey(SN_NO_SHEET, 3, 3, heights, 9, marks, 9);
 
     check(counts.code == SN_OK && marks[4] == middle, "the middle's mark");
     for (post = 0; post < 9; post++) {
@@ -147,6 +187,8 @@ int main(void)
     codes();
     marks_alone();
     ring_alone();
+    sheets_alone();
+    settings();
     marks_of(two, SN_SADDLE_1);
     marks_of(three, SN_SADDLE_2);
     marks_of(four, SN_SADDLE_3);

@@ -1,6 +1,6 @@
 /*
  * How much stack a call takes: each runs on a stack of its own, which was filled
- * with a pattern beforehand, on large plots of several kinds.
+ * with a pattern beforehand, on large plots of several kinds, by both rules.
  */
 #include "surface_network.h"
 
@@ -8,52 +8,64 @@
 #include <string.h>
 #include <ucontext.h>
 
-enum { SIDE = 120, POSTS = SIDE * SIDE, BOUND = 2048, PATTERN = 0xa5, CALLS = 10 };
+enum { SIDE = 120, POSTS = SIDE * SIDE, BOUND = 2048, PATTERN = 0xa5, CALLS = 11 };
 
 static int32_t heights[POSTS];
-static uint8_t marks[POSTS], ring[SN_RING_LENGTH], file[SN_MAX_FILE], stack[1 << 16];
+static uint8_t marks[POSTS], ring[SN_RING_LENGTH], file[SN_MAX_FILE], name[SN_MAX_NAME];
+static uint8_t stack[1 << 16];
 static uint16_t line[SN_MAX_LINE], dales[POSTS], hills[POSTS];
 static uint32_t post, code;
 static ucontext_t here, there;
 
+/* The rule, which main changes, and a name. */
+enum { RULE_PLACE = 7 };
+static uint8_t sheet[] = {SN_SHEET_VERSION, 0, 0, 0, 8, SN_ENTRY_RULE, 1, SN_THROUGH_LOWEST,
+                          SN_ENTRY_NAME, 3, 'd', 'a', 'm'};
+#define SHEET sheet, sizeof sheet
+
+static void settings(void)
+{
+    code = sn_settings(SHEET, name, SN_MAX_NAME).code;
+}
+
 static void survey(void)
 {
-    code = sn_survey(SIDE, SIDE, heights, POSTS, marks, POSTS).code;
+    code = sn_survey(SHEET, SIDE, SIDE, heights, POSTS, marks, POSTS).code;
 }
 
 static void reshoot(void)
 {
-    code = sn_reshoot(SIDE, SIDE, heights, POSTS, marks, POSTS, post, heights[post]).code;
+    code = sn_reshoot(SHEET, SIDE, SIDE, heights, POSTS, marks, POSTS, post, heights[post]).code;
 }
 
 static void ring_of_post(void)
 {
-    code = sn_ring(SIDE, SIDE, heights, POSTS, post, ring, SN_RING_LENGTH).code;
+    code = sn_ring(SHEET, SIDE, SIDE, heights, POSTS, post, ring, SN_RING_LENGTH).code;
 }
 
 static void next_down(void)
 {
-    code = sn_next_down(SIDE, SIDE, heights, POSTS, post).code;
+    code = sn_next_down(SHEET, SIDE, SIDE, heights, POSTS, post).code;
 }
 
 static void next_up(void)
 {
-    code = sn_next_up(SIDE, SIDE, heights, POSTS, post).code;
+    code = sn_next_up(SHEET, SIDE, SIDE, heights, POSTS, post).code;
 }
 
 static void thalweg(void)
 {
-    code = sn_thalweg(SIDE, SIDE, heights, POSTS, post, 0, line, SN_MAX_LINE).code;
+    code = sn_thalweg(SHEET, SIDE, SIDE, heights, POSTS, post, 0, line, SN_MAX_LINE).code;
 }
 
 static void ridge(void)
 {
-    code = sn_ridge(SIDE, SIDE, heights, POSTS, post, 0, line, SN_MAX_LINE).code;
+    code = sn_ridge(SHEET, SIDE, SIDE, heights, POSTS, post, 0, line, SN_MAX_LINE).code;
 }
 
 static void parts(void)
 {
-    code = sn_dales_and_hills(SIDE, SIDE, heights, POSTS, dales, POSTS, hills, POSTS).code;
+    code = sn_dales_and_hills(SHEET, SIDE, SIDE, heights, POSTS, dales, POSTS, hills, POSTS).code;
 }
 
 static void write_file(void)
@@ -72,7 +84,7 @@ static const struct {
 } calls[CALLS] = {
     {"survey", survey}, {"re-shoot", reshoot}, {"ring", ring_of_post}, {"next down", next_down},
     {"next up", next_up}, {"thalweg", thalweg}, {"ridge", ridge},
-    {"dales and hills", parts}, {"write", write_file}, {"read", read_file}
+    {"dales and hills", parts}, {"write", write_file}, {"read", read_file}, {"settings", settings}
 };
 
 /* The bytes of stack that a call touches. */
@@ -112,10 +124,11 @@ int main(void)
     size_t bytes, most = 0;
     int i, k, passed = 0, failed = 0;
 
-    for (k = 0; k < 3; k++) {
-        fill(kinds[k]);
+    for (k = 0; k < 6; k++) {
+        sheet[RULE_PLACE] = k < 3 ? SN_THROUGH_LOWEST : SN_THROUGH_HIGHEST;
+        fill(kinds[k % 3]);
         for (i = 0; i < CALLS; i++) {
-            code = SN_BAD_COUNT;
+            code = SN_BAD_ENTRY;
             bytes = taken(calls[i].call);
             most = bytes > most ? bytes : most;
             if (code == SN_OK && bytes < BOUND) {

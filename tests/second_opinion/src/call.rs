@@ -1,11 +1,13 @@
 //! One call with all its arguments, and the lists as lent or as left.
 
-use crate::opinion;
-use crate::surface::Way;
+use crate::opinion::{self, Given};
+use crate::sheet;
+use crate::surface::{Rule, Way};
 use std::fmt;
 
 #[derive(Clone, Copy, PartialEq, Eq, Debug, Default)]
 pub enum Kind {
+    Settings,
     #[default]
     Survey,
     Reshoot,
@@ -19,7 +21,8 @@ pub enum Kind {
     WriteSurvey,
 }
 
-pub const KINDS: [Kind; 10] = [
+pub const KINDS: [Kind; 11] = [
+    Kind::Settings,
     Kind::Survey,
     Kind::Reshoot,
     Kind::Ring,
@@ -32,10 +35,22 @@ pub const KINDS: [Kind; 10] = [
     Kind::WriteSurvey,
 ];
 
+impl Kind {
+    pub fn needs_diagonals(self) -> bool {
+        !matches!(self, Kind::Settings | Kind::ReadSurvey | Kind::WriteSurvey)
+    }
+
+    pub fn takes_sheet(self) -> bool {
+        self == Kind::Settings || self.needs_diagonals()
+    }
+}
+
 /// Arguments that a kind has no use for stay empty or 0.
 #[derive(Clone, PartialEq, Default)]
 pub struct Call {
     pub kind: Kind,
+    pub sheet: Vec<u8>,
+    pub name: Vec<u8>,
     pub rows: u32,
     pub columns: u32,
     pub heights: Vec<i32>,
@@ -53,36 +68,21 @@ pub struct Call {
 impl Call {
     /// The answer by docs/SPECIFICATION.md; the lists become what the call must leave.
     pub fn by_opinion(&mut self) -> Vec<u32> {
-        let Call {
-            kind,
-            rows,
-            columns,
-            heights,
-            marks,
-            post,
-            height,
-            ring,
-            run,
-            line,
-            dales,
-            hills,
-            file,
-        } = self;
-        let (rows, columns, post, height, run) = (*rows, *columns, *post, *height, *run);
-        let next = |way| opinion::next(way, rows, columns, heights, post).to_vec();
+        let Call { kind, rows, columns, post, height, run, .. } = *self;
+        let Call { sheet, name, heights, marks, ring, line, dales, hills, file, .. } = self;
+        let given = Given { sheet, rows, columns, heights };
         match kind {
-            Kind::Survey => opinion::survey(rows, columns, heights, marks).to_vec(),
-            Kind::Reshoot => opinion::reshoot(rows, columns, heights, marks, post, height).to_vec(),
-            Kind::Ring => opinion::ring(rows, columns, heights, post, ring).to_vec(),
-            Kind::NextDown => next(Way::Down),
-            Kind::NextUp => next(Way::Up),
-            Kind::Thalweg => {
-                opinion::line(Way::Down, rows, columns, heights, post, run, line).to_vec()
+            Kind::Settings => opinion::settings(sheet, name).to_vec(),
+            Kind::Survey => opinion::survey(given, marks).to_vec(),
+            Kind::Reshoot => {
+                opinion::reshoot(sheet, rows, columns, heights, marks, post, height).to_vec()
             }
-            Kind::Ridge => opinion::line(Way::Up, rows, columns, heights, post, run, line).to_vec(),
-            Kind::DalesAndHills => {
-                opinion::dales_and_hills(rows, columns, heights, dales, hills).to_vec()
-            }
+            Kind::Ring => opinion::ring(given, post, ring).to_vec(),
+            Kind::NextDown => opinion::next(Way::Down, given, post).to_vec(),
+            Kind::NextUp => opinion::next(Way::Up, given, post).to_vec(),
+            Kind::Thalweg => opinion::line(Way::Down, given, post, run, line).to_vec(),
+            Kind::Ridge => opinion::line(Way::Up, given, post, run, line).to_vec(),
+            Kind::DalesAndHills => opinion::dales_and_hills(given, dales, hills).to_vec(),
             Kind::ReadSurvey => opinion::read_survey(file, heights).to_vec(),
             Kind::WriteSurvey => opinion::write_survey(rows, columns, heights, file).to_vec(),
         }
@@ -90,8 +90,10 @@ impl Call {
 
     /// Is a list lent that has no entries?
     pub fn lends_empty(&self) -> bool {
-        self.heights.is_empty()
+        self.kind.takes_sheet() && self.sheet.is_empty()
+            || self.kind != Kind::Settings && self.heights.is_empty()
             || match self.kind {
+                Kind::Settings => self.name.is_empty(),
                 Kind::Survey | Kind::Reshoot => self.marks.is_empty(),
                 Kind::Ring => self.ring.is_empty(),
                 Kind::NextDown | Kind::NextUp => false,
@@ -99,6 +101,12 @@ impl Call {
                 Kind::DalesAndHills => self.dales.is_empty() || self.hills.is_empty(),
                 Kind::ReadSurvey | Kind::WriteSurvey => self.file.is_empty(),
             }
+    }
+
+    /// The rule that the call goes by, if it needs one and its sheet is accepted.
+    pub fn rule(&self) -> Option<Rule> {
+        let read = self.kind.needs_diagonals().then(|| sheet::read(&self.sheet));
+        Some(read?.ok()?.rule)
     }
 
     /// The lists that differ from another call's, each with its first difference.
@@ -109,7 +117,9 @@ impl Call {
                 Some(i) => format!("\n  {name}[{i}] is {:?}, should be {:?}", a[i], b[i]),
             }
         }
-        first("heights", &self.heights, &other.heights)
+        first("sheet", &self.sheet, &other.sheet)
+            + &first("name", &self.name, &other.name)
+            + &first("heights", &self.heights, &other.heights)
             + &first("marks", &self.marks, &other.marks)
             + &first("ring", &self.ring, &other.ring)
             + &first("line", &self.line, &other.line)
@@ -119,19 +129,21 @@ impl Call {
     }
 }
 
-/// The arguments; a large plot or file is told by its beginning.
+/// The arguments; a large plot, sheet or file is told by its beginning.
 impl fmt::Display for Call {
     fn fmt(&self, f: &mut fmt::Formatter) -> fmt::Result {
         write!(
             f,
-            "{:?}, rows {}, columns {}, post {}, height {}, run {}; lengths: heights {}, \
-             marks {}, ring {}, line {}, dales {}, hills {}, file {}",
+            "{:?}, rows {}, columns {}, post {}, height {}, run {}; lengths: sheet {}, name {}, \
+             heights {}, marks {}, ring {}, line {}, dales {}, hills {}, file {}",
             self.kind,
             self.rows,
             self.columns,
             self.post,
             self.height,
             self.run,
+            self.sheet.len(),
+            self.name.len(),
             self.heights.len(),
             self.marks.len(),
             self.ring.len(),
@@ -147,8 +159,10 @@ impl fmt::Display for Call {
                 write!(f, " {height}")?;
             }
         }
-        if !self.file.is_empty() {
-            write!(f, "\n    file {:?}", &self.file[..self.file.len().min(64)])?;
+        for (name, bytes) in [("sheet", &self.sheet), ("file", &self.file)] {
+            if !bytes.is_empty() {
+                write!(f, "\n    {name} {:?}", &bytes[..bytes.len().min(64)])?;
+            }
         }
         Ok(())
     }

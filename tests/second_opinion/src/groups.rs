@@ -6,11 +6,12 @@ mod files;
 pub mod lister;
 mod refusals;
 mod series;
+mod sheets;
 mod whole_plots;
 
 use crate::call::{Call, Kind};
-use crate::opinion::file_of;
-use crate::plots::{in_tenths, Chance, UNEVEN};
+use crate::plots::Chance;
+use crate::samples::any_meaning;
 use crate::surface::{Plot, Way};
 use crate::tester::{law, Outcome, Tester};
 
@@ -24,6 +25,7 @@ pub fn all(t: &mut Tester, chance: &mut Chance, long: bool) {
     bounds::posts_and_runs(t, chance);
     bounds::lengths(t, chance);
     bounds::other_shape(t, chance);
+    sheets::all(t, chance, times);
     files::round_trip(t, chance, 300 * times);
     files::every_tenth(t);
     files::every_filed_height(t);
@@ -33,6 +35,7 @@ pub fn all(t: &mut Tester, chance: &mut Chance, long: bool) {
     whole_plots::small_random(t, chance, 4000 * times);
     series::series(t, chance, times);
     whole_plots::exhaustive(t, chance, long);
+    whole_plots::upside_down(t, chance, 1000 * times);
     whole_plots::every_post(t, chance, long);
     whole_plots::large_random(t, chance, 12 * times);
 }
@@ -40,13 +43,17 @@ pub fn all(t: &mut Tester, chance: &mut Chance, long: bool) {
 const WAYS: [(Way, Kind, Kind); 2] =
     [(Way::Down, Kind::NextDown, Kind::Thalweg), (Way::Up, Kind::NextUp, Kind::Ridge)];
 
-/// A call of a kind that is accepted, with lists of their right size and any
-/// content. A line call takes the first saddle, if there is one.
-fn good(kind: Kind, rows: usize, columns: usize, heights: &[i32], chance: &mut Chance) -> Call {
-    let posts = rows * columns;
-    let mut call = Call { kind, heights: heights.to_vec(), ..Call::default() };
-    (call.rows, call.columns) = (rows as u32, columns as u32);
+/// A call of a kind that is accepted, with any sheet that means the plot's rule, and lists
+/// of their right size and any content. A line call takes the first saddle, if there is one.
+fn good(kind: Kind, plot: &Plot, chance: &mut Chance) -> Call {
+    let posts = plot.posts();
+    let mut call = Call { kind, heights: plot.heights.to_vec(), ..Call::default() };
+    (call.rows, call.columns) = (plot.rows as u32, plot.columns as u32);
+    if kind.takes_sheet() {
+        call.sheet = any_meaning(plot.rule, chance);
+    }
     match kind {
+        Kind::Settings => return sheets::settings(call.sheet, chance),
         Kind::Survey => call.marks = chance.bytes(posts),
         Kind::Reshoot => {
             call.marks = chance.bytes(posts);
@@ -59,21 +66,14 @@ fn good(kind: Kind, rows: usize, columns: usize, heights: &[i32], chance: &mut C
         }
         Kind::NextDown | Kind::NextUp => call.post = chance.below(posts) as u32,
         Kind::Thalweg | Kind::Ridge => {
-            let plot = Plot { rows, columns, heights };
-            let saddle = (0..posts).find(|&p| plot.is_saddle(p));
-            call.post = saddle.unwrap_or(0) as u32;
+            call.post = (0..posts).find(|&p| plot.is_saddle(p)).unwrap_or(0) as u32;
             call.line = chance.shorts(posts + 1);
         }
         Kind::DalesAndHills => {
             call.dales = chance.shorts(posts);
             call.hills = chance.shorts(posts);
         }
-        Kind::ReadSurvey => {
-            (call.rows, call.columns) = (0, 0);
-            let tenths = in_tenths(heights, &UNEVEN, chance);
-            call.file = file_of(rows as u8, columns as u8, &tenths);
-            call.heights = chance.shorts(posts).iter().map(|&h| h as i32).collect();
-        }
+        Kind::ReadSurvey => return files::filed(plot, chance),
         Kind::WriteSurvey => call.file = chance.bytes(7 + 4 * posts),
     }
     call

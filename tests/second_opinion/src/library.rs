@@ -8,6 +8,8 @@ use std::ptr::null_mut;
 #[repr(C)]
 struct Answer([u32; 2]);
 #[repr(C)]
+struct Sheet([u32; 4]);
+#[repr(C)]
 struct Counts([u32; 5]);
 #[repr(C)]
 struct RingMark([u32; 4]);
@@ -19,7 +21,10 @@ struct Entries([u32; 3]);
 struct Size([u32; 4]);
 
 extern "C" {
+    fn sn_settings(sheet: *const u8, sn: usize, name: *mut u8, nn: usize) -> Sheet;
     fn sn_survey(
+        sheet: *const u8,
+        sn: usize,
         rows: u32,
         columns: u32,
         h: *const i32,
@@ -28,6 +33,8 @@ extern "C" {
         mn: usize,
     ) -> Counts;
     fn sn_reshoot(
+        sheet: *const u8,
+        sn: usize,
         rows: u32,
         columns: u32,
         h: *mut i32,
@@ -38,6 +45,8 @@ extern "C" {
         height: i32,
     ) -> Answer;
     fn sn_ring(
+        sheet: *const u8,
+        sn: usize,
         rows: u32,
         columns: u32,
         h: *const i32,
@@ -46,9 +55,27 @@ extern "C" {
         ring: *mut u8,
         rn: usize,
     ) -> RingMark;
-    fn sn_next_down(rows: u32, columns: u32, h: *const i32, hn: usize, post: u32) -> Next;
-    fn sn_next_up(rows: u32, columns: u32, h: *const i32, hn: usize, post: u32) -> Next;
+    fn sn_next_down(
+        sheet: *const u8,
+        sn: usize,
+        rows: u32,
+        columns: u32,
+        h: *const i32,
+        hn: usize,
+        post: u32,
+    ) -> Next;
+    fn sn_next_up(
+        sheet: *const u8,
+        sn: usize,
+        rows: u32,
+        columns: u32,
+        h: *const i32,
+        hn: usize,
+        post: u32,
+    ) -> Next;
     fn sn_thalweg(
+        sheet: *const u8,
+        sn: usize,
         rows: u32,
         columns: u32,
         h: *const i32,
@@ -59,6 +86,8 @@ extern "C" {
         ln: usize,
     ) -> Entries;
     fn sn_ridge(
+        sheet: *const u8,
+        sn: usize,
         rows: u32,
         columns: u32,
         h: *const i32,
@@ -69,6 +98,8 @@ extern "C" {
         ln: usize,
     ) -> Entries;
     fn sn_dales_and_hills(
+        sheet: *const u8,
+        sn: usize,
         rows: u32,
         columns: u32,
         h: *const i32,
@@ -155,6 +186,8 @@ impl Guarded {
 
 /// Where the lists of a call lie.
 struct Lent {
+    sheet: *mut u8,
+    name: *mut u8,
     heights: *mut i32,
     marks: *mut u8,
     ring: *mut u8,
@@ -166,27 +199,31 @@ struct Lent {
 
 /// The answer of the C call, which finds its lists there.
 unsafe fn answer(call: &Call, lent: &Lent) -> Vec<u32> {
-    let Lent { heights, marks, ring, line, dales, hills, file } = *lent;
+    let Lent { sheet, name, heights, marks, ring, line, dales, hills, file } = *lent;
     let (r, c, p, run) = (call.rows, call.columns, call.post, call.run);
+    let (s, sn, nn) = (sheet.cast_const(), call.sheet.len(), call.name.len());
     let (h, hn) = (heights.cast_const(), call.heights.len());
     let (mn, rn, ln) = (call.marks.len(), call.ring.len(), call.line.len());
     let (dn, pn, fl) = (call.dales.len(), call.hills.len(), call.file.len());
     match call.kind {
-        Kind::Survey => sn_survey(r, c, h, hn, marks, mn).0.to_vec(),
-        Kind::Reshoot => sn_reshoot(r, c, heights, hn, marks, mn, p, call.height).0.to_vec(),
-        Kind::Ring => sn_ring(r, c, h, hn, p, ring, rn).0.to_vec(),
-        Kind::NextDown => sn_next_down(r, c, h, hn, p).0.to_vec(),
-        Kind::NextUp => sn_next_up(r, c, h, hn, p).0.to_vec(),
-        Kind::Thalweg => sn_thalweg(r, c, h, hn, p, run, line, ln).0.to_vec(),
-        Kind::Ridge => sn_ridge(r, c, h, hn, p, run, line, ln).0.to_vec(),
-        Kind::DalesAndHills => sn_dales_and_hills(r, c, h, hn, dales, dn, hills, pn).0.to_vec(),
+        Kind::Settings => sn_settings(s, sn, name, nn).0.to_vec(),
+        Kind::Survey => sn_survey(s, sn, r, c, h, hn, marks, mn).0.to_vec(),
+        Kind::Reshoot => sn_reshoot(s, sn, r, c, heights, hn, marks, mn, p, call.height).0.to_vec(),
+        Kind::Ring => sn_ring(s, sn, r, c, h, hn, p, ring, rn).0.to_vec(),
+        Kind::NextDown => sn_next_down(s, sn, r, c, h, hn, p).0.to_vec(),
+        Kind::NextUp => sn_next_up(s, sn, r, c, h, hn, p).0.to_vec(),
+        Kind::Thalweg => sn_thalweg(s, sn, r, c, h, hn, p, run, line, ln).0.to_vec(),
+        Kind::Ridge => sn_ridge(s, sn, r, c, h, hn, p, run, line, ln).0.to_vec(),
+        Kind::DalesAndHills => {
+            sn_dales_and_hills(s, sn, r, c, h, hn, dales, dn, hills, pn).0.to_vec()
+        }
         Kind::ReadSurvey => sn_read_survey(file, fl, heights, hn).0.to_vec(),
         Kind::WriteSurvey => sn_write_survey(r, c, h, hn, file, fl).0.to_vec(),
     }
 }
 
 pub struct Library {
-    memory: [Guarded; 7],
+    memory: [Guarded; 9],
 }
 
 impl Library {
@@ -196,24 +233,28 @@ impl Library {
 
     /// The library's answer; the lists become what it left.
     pub fn run(&self, call: &mut Call, edge: Edge) -> Vec<u32> {
-        let [m0, m1, m2, m3, m4, m5, m6] = &self.memory;
+        let [m0, m1, m2, m3, m4, m5, m6, m7, m8] = &self.memory;
         let lent = Lent {
-            heights: m0.lend(&call.heights, edge),
-            marks: m1.lend(&call.marks, edge),
-            ring: m2.lend(&call.ring, edge),
-            line: m3.lend(&call.line, edge),
-            dales: m4.lend(&call.dales, edge),
-            hills: m5.lend(&call.hills, edge),
-            file: m6.lend(&call.file, edge),
+            sheet: m0.lend(&call.sheet, edge),
+            name: m1.lend(&call.name, edge),
+            heights: m2.lend(&call.heights, edge),
+            marks: m3.lend(&call.marks, edge),
+            ring: m4.lend(&call.ring, edge),
+            line: m5.lend(&call.line, edge),
+            dales: m6.lend(&call.dales, edge),
+            hills: m7.lend(&call.hills, edge),
+            file: m8.lend(&call.file, edge),
         };
         let answer = unsafe { answer(call, &lent) };
-        m0.give_back(&mut call.heights, lent.heights);
-        m1.give_back(&mut call.marks, lent.marks);
-        m2.give_back(&mut call.ring, lent.ring);
-        m3.give_back(&mut call.line, lent.line);
-        m4.give_back(&mut call.dales, lent.dales);
-        m5.give_back(&mut call.hills, lent.hills);
-        m6.give_back(&mut call.file, lent.file);
+        m0.give_back(&mut call.sheet, lent.sheet);
+        m1.give_back(&mut call.name, lent.name);
+        m2.give_back(&mut call.heights, lent.heights);
+        m3.give_back(&mut call.marks, lent.marks);
+        m4.give_back(&mut call.ring, lent.ring);
+        m5.give_back(&mut call.line, lent.line);
+        m6.give_back(&mut call.dales, lent.dales);
+        m7.give_back(&mut call.hills, lent.hills);
+        m8.give_back(&mut call.file, lent.file);
         answer
     }
 }

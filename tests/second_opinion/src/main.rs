@@ -5,13 +5,13 @@
 //!     second_opinion --list <FILE
 //!
 //! With --lister it compares the listing program instead; with --list it prints its
-//! own listing of a survey file.
+//! own listing of a survey file, by plot.set in the folder that it runs in.
 //! --long tries some twenty times as much, from another seed each time, unless one
 //! is given; --stop ends at the first failure; --only asks the library for calls of one
 //! kind, as call.rs names it, and takes the second opinion's word for the others.
 //!
 //! Prints `N passed, M failed` last; a case is one plot, one call that is
-//! refused or at a bound, one series or one file.
+//! refused or at a bound, one series, one sheet or one file.
 
 mod call;
 mod groups;
@@ -19,6 +19,8 @@ mod library;
 mod listing;
 mod opinion;
 mod plots;
+mod samples;
+mod sheet;
 mod surface;
 mod tester;
 
@@ -31,7 +33,8 @@ fn main() {
     if given("--list") {
         let mut input = Vec::new();
         std::io::stdin().read_to_end(&mut input).expect("standard input");
-        print!("{}", listing::listing(&input));
+        let settings = listing::plot_set().expect("plot.set");
+        print!("{}", listing::listing(&settings, &input));
         return;
     }
     let (long, stop) = (given("--long"), given("--stop"));

@@ -1,9 +1,11 @@
 //! Every call as docs/SPECIFICATION.md tells it: the refusals, then the answer. A
 //! list is handed in as lent and comes back as the call must leave it.
 
+use crate::sheet;
 use crate::surface::{counts, Plot, Way, VIRTUAL_PIT};
 
-type Refusal = (u32, u32);
+/// Number and place.
+pub type Refusal = (u32, u32);
 
 const HEIGHT: i64 = 1_000_000;
 const TENTHS: i64 = 10_000_000;
@@ -21,8 +23,8 @@ fn row_1(rows: u32, columns: u32) -> Result<(), Refusal> {
     }
 }
 
-fn row_2(plot: &Plot) -> Result<(), Refusal> {
-    if plot.heights.len() == plot.posts() {
+fn row_2(rows: u32, columns: u32, heights: &[i32]) -> Result<(), Refusal> {
+    if heights.len() == rows as usize * columns as usize {
         Ok(())
     } else {
         Err((2, 0))
@@ -52,11 +54,24 @@ fn row_5(post: u32, plot: &Plot) -> Result<(), Refusal> {
     }
 }
 
-fn plot(rows: u32, columns: u32, heights: &[i32]) -> Result<Plot<'_>, Refusal> {
-    row_1(rows, columns)?;
-    let plot = Plot { rows: rows as usize, columns: columns as usize, heights };
-    row_2(&plot)?;
-    Ok(plot)
+/// A plot as it is lent, with its sheet, before anything of it is judged.
+#[derive(Clone, Copy)]
+pub struct Given<'a> {
+    pub sheet: &'a [u8],
+    pub rows: u32,
+    pub columns: u32,
+    pub heights: &'a [i32],
+}
+
+impl<'a> Given<'a> {
+    /// The plot, by the sheet's rule, which is judged before anything else.
+    fn plot(&self) -> Result<Plot<'a>, Refusal> {
+        let Given { sheet, rows, columns, heights } = *self;
+        let rule = sheet::read(sheet)?.rule;
+        row_1(rows, columns)?;
+        row_2(rows, columns, heights)?;
+        Ok(Plot { rule, rows: rows as usize, columns: columns as usize, heights })
+    }
 }
 
 /// Code, place and the values, which are 0 after a refusal.
@@ -69,17 +84,29 @@ fn answer<const N: usize>(outcome: Result<Vec<u32>, Refusal>) -> [u32; N] {
     answer
 }
 
-pub fn survey(rows: u32, columns: u32, heights: &[i32], marks: &mut [u8]) -> [u32; 5] {
+pub fn settings(sheet: &[u8], name: &mut [u8]) -> [u32; 4] {
     answer((|| {
-        let plot = plot(rows, columns, heights)?;
+        let settings = sheet::read(sheet)?;
+        row_3(name.len(), 32)?;
+        let (front, after) = name.split_at_mut(settings.name.len());
+        front.copy_from_slice(&settings.name);
+        after.fill(0);
+        Ok(vec![settings.rule as u32, settings.name.len() as u32])
+    })())
+}
+
+pub fn survey(given: Given, marks: &mut [u8]) -> [u32; 5] {
+    answer((|| {
+        let plot = given.plot()?;
         row_3(marks.len(), plot.posts())?;
-        row_4(heights, HEIGHT)?;
+        row_4(plot.heights, HEIGHT)?;
         marks.copy_from_slice(&plot.marks());
         Ok(counts(marks).to_vec())
     })())
 }
 
 pub fn reshoot(
+    sheet: &[u8],
     rows: u32,
     columns: u32,
     heights: &mut [i32],
@@ -88,7 +115,7 @@ pub fn reshoot(
     height: i32,
 ) -> [u32; 2] {
     answer((|| {
-        let old = plot(rows, columns, heights)?;
+        let old = Given { sheet, rows, columns, heights }.plot()?;
         row_3(marks.len(), old.posts())?;
         row_4(heights, HEIGHT)?;
         row_5(post, &old)?;
@@ -96,7 +123,7 @@ pub fn reshoot(
             return Err((6, 0));
         }
         heights[post as usize] = height;
-        let new = plot(rows, columns, heights)?;
+        let new = Given { sheet, rows, columns, heights }.plot()?;
         marks[post as usize] = new.mark(post as usize);
         for p in new.touching(post as usize) {
             marks[p] = new.mark(p);
@@ -105,11 +132,11 @@ pub fn reshoot(
     })())
 }
 
-pub fn ring(rows: u32, columns: u32, heights: &[i32], post: u32, list: &mut [u8]) -> [u32; 4] {
+pub fn ring(given: Given, post: u32, list: &mut [u8]) -> [u32; 4] {
     answer((|| {
-        let plot = plot(rows, columns, heights)?;
+        let plot = given.plot()?;
         row_3(list.len(), 8)?;
-        row_4(heights, HEIGHT)?;
+        row_4(plot.heights, HEIGHT)?;
         row_5(post, &plot)?;
         let post = post as usize;
         list.fill(0);
@@ -121,27 +148,19 @@ pub fn ring(rows: u32, columns: u32, heights: &[i32], post: u32, list: &mut [u8]
     })())
 }
 
-pub fn next(way: Way, rows: u32, columns: u32, heights: &[i32], post: u32) -> [u32; 3] {
+pub fn next(way: Way, given: Given, post: u32) -> [u32; 3] {
     answer((|| {
-        let plot = plot(rows, columns, heights)?;
-        row_4(heights, HEIGHT)?;
+        let plot = given.plot()?;
+        row_4(plot.heights, HEIGHT)?;
         row_5(post, &plot)?;
         Ok(vec![plot.next(post as usize, way) as u32])
     })())
 }
 
-pub fn line(
-    way: Way,
-    rows: u32,
-    columns: u32,
-    heights: &[i32],
-    post: u32,
-    run: u32,
-    list: &mut [u16],
-) -> [u32; 3] {
+pub fn line(way: Way, given: Given, post: u32, run: u32, list: &mut [u16]) -> [u32; 3] {
     answer((|| {
-        let plot = plot(rows, columns, heights)?;
-        row_4(heights, HEIGHT)?;
+        let plot = given.plot()?;
+        row_4(plot.heights, HEIGHT)?;
         row_5(post, &plot)?;
         if !plot.is_saddle(post as usize) {
             return Err((7, 0));
@@ -159,18 +178,12 @@ pub fn line(
     })())
 }
 
-pub fn dales_and_hills(
-    rows: u32,
-    columns: u32,
-    heights: &[i32],
-    dales: &mut [u16],
-    hills: &mut [u16],
-) -> [u32; 2] {
+pub fn dales_and_hills(given: Given, dales: &mut [u16], hills: &mut [u16]) -> [u32; 2] {
     answer((|| {
-        let plot = plot(rows, columns, heights)?;
+        let plot = given.plot()?;
         row_3(dales.len(), plot.posts())?;
         row_3(hills.len(), plot.posts())?;
-        row_4(heights, HEIGHT)?;
+        row_4(plot.heights, HEIGHT)?;
         for (list, way) in [(dales, Way::Down), (hills, Way::Up)] {
             for (entry, end) in list.iter_mut().zip(plot.ends(way)) {
                 *entry = end as u16;
@@ -227,8 +240,9 @@ pub fn file_of(rows: u8, columns: u8, tenths: &[i32]) -> Vec<u8> {
 
 pub fn write_survey(rows: u32, columns: u32, heights: &[i32], file: &mut [u8]) -> [u32; 2] {
     answer((|| {
-        let plot = plot(rows, columns, heights)?;
-        row_3(file.len(), 7 + 4 * plot.posts())?;
+        row_1(rows, columns)?;
+        row_2(rows, columns, heights)?;
+        row_3(file.len(), 7 + 4 * heights.len())?;
         row_4(heights, HEIGHT)?;
         let tenths: Vec<i32> = heights.iter().map(|h| h * 10).collect();
         file.copy_from_slice(&file_of(rows as u8, columns as u8, &tenths));

@@ -1,5 +1,5 @@
 //! The surface network of docs/SPECIFICATION.md, said as plainly as possible and not fast:
-//! order, edges, ring, runs, marks, walks, lines, dales and hills.
+//! order, edges by either rule, ring, runs, marks, walks, lines, dales and hills.
 
 pub const VIRTUAL_PIT: usize = 65535;
 
@@ -10,6 +10,15 @@ pub enum Way {
     Up,
 }
 
+/// Which diagonal cuts a cell: the one through its lowest post, or through its highest.
+#[derive(Clone, Copy, PartialEq, Eq, Debug)]
+pub enum Rule {
+    Lowest = 1,
+    Highest = 2,
+}
+
+pub const RULES: [Rule; 2] = [Rule::Lowest, Rule::Highest];
+
 /// The ring's places, clockwise from north: row and column steps.
 const PLACES: [(i32, i32); 8] =
     [(-1, 0), (-1, 1), (0, 1), (1, 1), (1, 0), (1, -1), (0, -1), (-1, -1)];
@@ -18,7 +27,9 @@ const EAST: usize = 2;
 const SOUTH: usize = 4;
 const WEST: usize = 6;
 
+#[derive(Clone, Copy)]
 pub struct Plot<'a> {
+    pub rule: Rule,
     pub rows: usize,
     pub columns: usize,
     pub heights: &'a [i32],
@@ -77,10 +88,13 @@ impl Plot<'_> {
         if r == 0 || c == 0 {
             return Some(other);
         }
-        // The cell that has both at opposite corners is cut through its lowest post.
+        // The cell that has both at opposite corners is cut through one of them, or not.
         let cell = [post, self.at(post, r, 0)?, self.at(post, 0, c)?, other];
-        let lowest = self.extreme(Way::Down, &cell);
-        (lowest == post || lowest == other).then_some(other)
+        let through = match self.rule {
+            Rule::Lowest => self.extreme(Way::Down, &cell),
+            Rule::Highest => self.extreme(Way::Up, &cell),
+        };
+        (through == post || through == other).then_some(other)
     }
 
     /// Where the virtual pit stands on the ring, if the post is on the border.

@@ -2,6 +2,9 @@
 
 use crate::call::{Call, Kind};
 use crate::library::{Edge, Library};
+use crate::plots::Chance;
+use crate::sheet;
+use std::cell::RefCell;
 use std::ffi::c_int;
 use std::ptr::null_mut;
 use std::sync::atomic::{AtomicPtr, AtomicU64, Ordering::Relaxed};
@@ -36,6 +39,8 @@ pub struct Tester {
     stop: bool,
     /// Ask the library for calls of this kind alone.
     only: Option<Kind>,
+    /// For the choice among sheets that mean the same.
+    chance: RefCell<Chance>,
 }
 
 pub type Outcome = Result<(), String>;
@@ -58,6 +63,7 @@ impl Tester {
             shown: 0,
             stop,
             only,
+            chance: RefCell::new(Chance(1)),
         }
     }
 
@@ -101,7 +107,8 @@ impl Tester {
     }
 
     /// The answer and the lists afterwards, where the library and the second
-    /// opinion agree on them, wherever the lists lie.
+    /// opinion agree on them, wherever the lists lie, and by another sheet that
+    /// means the same rule.
     pub fn agree(&self, call: &Call) -> Result<(Vec<u32>, Call), String> {
         let mut expected = call.clone();
         let answer = expected.by_opinion();
@@ -109,21 +116,38 @@ impl Tester {
             return Ok((answer, expected));
         }
         for edge in [Edge::Start, Edge::End, Edge::Null] {
-            if edge == Edge::Null && !call.lends_empty() {
-                continue;
-            }
-            let mut got = call.clone();
-            CURRENT.store(call as *const Call as *mut Call, Relaxed);
-            let got_answer = self.library.run(&mut got, edge);
-            CURRENT.store(null_mut(), Relaxed);
-            if got_answer != answer || got != expected {
-                return Err(format!(
-                    "answer {got_answer:?}, should be {answer:?}; lists at {edge:?}{}\n  {call}",
-                    got.differences(&expected)
-                ));
+            if edge != Edge::Null || call.lends_empty() {
+                self.gives(call, edge, &answer, &expected)?;
             }
         }
+        if let Some(sheet) = self.another_sheet(call) {
+            let other = Call { sheet: sheet.to_vec(), ..call.clone() };
+            expected.sheet = sheet.to_vec();
+            self.gives(&other, Edge::Null, &answer, &expected)?;
+            expected.sheet = call.sheet.clone();
+        }
         Ok((answer, expected))
+    }
+
+    /// Another sheet with the meaning of the call's, if it needs one.
+    fn another_sheet(&self, call: &Call) -> Option<&'static [u8]> {
+        let alike = sheet::meaning(call.rule()?);
+        Some(self.chance.borrow_mut().of(alike)).filter(|&sheet| sheet != call.sheet)
+    }
+
+    /// The library gives this answer and leaves these lists.
+    fn gives(&self, call: &Call, edge: Edge, answer: &[u32], expected: &Call) -> Outcome {
+        let mut got = call.clone();
+        CURRENT.store(call as *const Call as *mut Call, Relaxed);
+        let got_answer = self.library.run(&mut got, edge);
+        CURRENT.store(null_mut(), Relaxed);
+        if got_answer == answer && got == *expected {
+            return Ok(());
+        }
+        Err(format!(
+            "answer {got_answer:?}, should be {answer:?}; lists at {edge:?}{}\n  {call}",
+            got.differences(expected)
+        ))
     }
 }
 

@@ -1,8 +1,10 @@
-//! The plots of "Example plots" in docs/SPECIFICATION.md, by their printed values.
+//! The plots of "Example plots" in docs/SPECIFICATION.md, by their printed values, and by
+//! the second rule as drawn by hand.
 
 use super::files::read;
 use crate::call::{Call, Kind};
 use crate::opinion::file_of;
+use crate::sheet::sheet_of;
 use crate::tester::{law, Tester};
 
 const FLAT: &[i32] = &[0, 0, 0, 0];
@@ -11,20 +13,26 @@ const STAR: &[i32] = &[0, 2, 0, 2, 1, 2, 0, 2, 0];
 const HOLLOW: &[i32] = &[1, 1, 1, 1, 0, 1, 1, 1, 1];
 const RUNS: &[i32] = &[0, 3, 9, 2, 5, 7, 6, 8, 1];
 
-/// Side, heights, then the counts and the marks.
-type Survey = (u32, &'static [i32], [u32; 3], &'static [u8]);
-const SURVEYS: [Survey; 5] = [
-    (2, FLAT, [1, 1, 0], &[0, 0, 0, 1]),
-    (2, CROSSED, [2, 1, 1], &[1, 0, 3, 1]),
-    (3, STAR, [4, 1, 3], &[0, 1, 0, 1, 5, 1, 0, 1, 0]),
-    (3, HOLLOW, [1, 2, 1], &[3, 0, 0, 0, 2, 0, 0, 0, 1]),
-    (3, RUNS, [2, 1, 1], &[0, 0, 1, 0, 3, 0, 0, 1, 0]),
+/// Rule, side, heights, then the counts and the marks.
+type Survey = (u8, u32, &'static [i32], [u32; 3], &'static [u8]);
+const SURVEYS: [Survey; 10] = [
+    (1, 2, FLAT, [1, 1, 0], &[0, 0, 0, 1]),
+    (1, 2, CROSSED, [2, 1, 1], &[1, 0, 3, 1]),
+    (1, 3, STAR, [4, 1, 3], &[0, 1, 0, 1, 5, 1, 0, 1, 0]),
+    (1, 3, HOLLOW, [1, 2, 1], &[3, 0, 0, 0, 2, 0, 0, 0, 1]),
+    (1, 3, RUNS, [2, 1, 1], &[0, 0, 1, 0, 3, 0, 0, 1, 0]),
+    (2, 2, FLAT, [1, 1, 0], &[0, 0, 0, 1]),
+    (2, 2, CROSSED, [1, 1, 0], &[0, 0, 0, 1]),
+    (2, 3, STAR, [1, 2, 1], &[0, 3, 0, 0, 2, 0, 0, 1, 0]),
+    (2, 3, HOLLOW, [1, 2, 1], &[0, 3, 0, 0, 2, 0, 0, 0, 1]),
+    (2, 3, RUNS, [2, 1, 1], &[0, 0, 1, 0, 0, 3, 0, 1, 0]),
 ];
 
-/// Side, heights, then for each post the codes of its ring, k and its mark.
-type Rings = (u32, &'static [i32], &'static [([u8; 8], u32, u32)]);
-const RINGS: [Rings; 5] = [
+/// Rule, side, heights, then for each post the codes of its ring, k and its mark.
+type Rings = (u8, u32, &'static [i32], &'static [([u8; 8], u32, u32)]);
+const RINGS: [Rings; 7] = [
     (
+        1,
         2,
         FLAT,
         &[
@@ -35,6 +43,7 @@ const RINGS: [Rings; 5] = [
         ],
     ),
     (
+        1,
         2,
         CROSSED,
         &[
@@ -45,6 +54,7 @@ const RINGS: [Rings; 5] = [
         ],
     ),
     (
+        1,
         3,
         STAR,
         &[
@@ -60,6 +70,7 @@ const RINGS: [Rings; 5] = [
         ],
     ),
     (
+        1,
         3,
         HOLLOW,
         &[
@@ -75,6 +86,7 @@ const RINGS: [Rings; 5] = [
         ],
     ),
     (
+        1,
         3,
         RUNS,
         &[
@@ -89,15 +101,48 @@ const RINGS: [Rings; 5] = [
             ([1, 3, 1, 1, 0, 0, 0, 0], 1, 0),
         ],
     ),
+    (
+        2,
+        2,
+        CROSSED,
+        &[
+            ([3, 3, 2, 3, 0, 0, 0, 0], 1, 0),
+            ([3, 1, 1, 0, 0, 0, 0, 0], 1, 0),
+            ([1, 1, 3, 0, 0, 0, 0, 0], 1, 0),
+            ([3, 3, 3, 4, 0, 0, 0, 0], 1, 1),
+        ],
+    ),
+    (
+        2,
+        3,
+        STAR,
+        &[
+            ([3, 1, 1, 0, 0, 0, 0, 0], 1, 0),
+            ([3, 3, 2, 3, 2, 3, 0, 0], 2, 3),
+            ([3, 1, 1, 0, 0, 0, 0, 0], 1, 0),
+            ([3, 4, 3, 2, 3, 3, 0, 0], 1, 0),
+            ([1, 1, 1, 1, 0, 0, 0, 0], 0, 2),
+            ([3, 3, 3, 2, 3, 4, 0, 0], 1, 0),
+            ([1, 1, 3, 0, 0, 0, 0, 0], 1, 0),
+            ([3, 4, 3, 3, 3, 4, 0, 0], 1, 1),
+            ([1, 3, 1, 0, 0, 0, 0, 0], 1, 0),
+        ],
+    ),
 ];
 
-/// Kind, side, heights, post, run, the list's length, then the code and the list.
-type Line = (Kind, u32, &'static [i32], u32, u32, usize, u32, &'static [u16]);
-const LINES: [Line; 4] = [
-    (Kind::Thalweg, 2, CROSSED, 2, 0, 3, 0, &[2, 1, 65535]),
-    (Kind::Thalweg, 2, CROSSED, 2, 0, 2, 9, &[9, 9]),
-    (Kind::Ridge, 3, STAR, 4, 0, 2, 0, &[4, 1]),
-    (Kind::Thalweg, 2, CROSSED, 2, 2, 9, 8, &[9; 9]),
+/// Kind, rule, side, heights, post, run, the list's length, then the code and the list.
+type Line = (Kind, u8, u32, &'static [i32], u32, u32, usize, u32, &'static [u16]);
+const LINES: [Line; 10] = [
+    (Kind::Thalweg, 1, 2, CROSSED, 2, 0, 3, 0, &[2, 1, 65535]),
+    (Kind::Thalweg, 1, 2, CROSSED, 2, 0, 2, 9, &[9, 9]),
+    (Kind::Ridge, 1, 3, STAR, 4, 0, 2, 0, &[4, 1]),
+    (Kind::Thalweg, 1, 2, CROSSED, 2, 2, 9, 8, &[9; 9]),
+    (Kind::Thalweg, 2, 2, CROSSED, 2, 0, 3, 7, &[9, 9, 9]),
+    (Kind::Thalweg, 2, 3, STAR, 1, 0, 2, 0, &[1, 4]),
+    (Kind::Thalweg, 2, 3, STAR, 1, 1, 2, 0, &[1, 65535]),
+    (Kind::Ridge, 2, 3, STAR, 1, 0, 3, 0, &[1, 5, 7]),
+    (Kind::Ridge, 2, 3, STAR, 1, 1, 3, 0, &[1, 3, 7]),
+    (Kind::Ridge, 2, 3, STAR, 1, 2, 3, 8, &[9, 9, 9]),
 ];
 
 /// Tenths, then the heights that they are read as.
@@ -112,13 +157,15 @@ pub fn bench_plots(t: &mut Tester) {
     files(t);
 }
 
-fn square(kind: Kind, side: u32, heights: &[i32]) -> Call {
-    Call { kind, rows: side, columns: side, heights: heights.to_vec(), ..Call::default() }
+fn square(kind: Kind, rule: u8, side: u32, heights: &[i32]) -> Call {
+    let (sheet, heights) = (sheet_of(&[(1, &[rule])]), heights.to_vec());
+    Call { kind, sheet, rows: side, columns: side, heights, ..Call::default() }
 }
 
 fn surveys(t: &mut Tester) {
-    for (side, heights, counts, marks) in SURVEYS {
-        let call = Call { marks: vec![9; heights.len()], ..square(Kind::Survey, side, heights) };
+    for (rule, side, heights, counts, marks) in SURVEYS {
+        let call = square(Kind::Survey, rule, side, heights);
+        let call = Call { marks: vec![9; heights.len()], ..call };
         t.case(t.agree(&call).and_then(|(answer, left)| {
             law(answer[2..] == counts, "the counts", &call)?;
             law(left.marks == marks, "the marks", &call)
@@ -127,9 +174,10 @@ fn surveys(t: &mut Tester) {
 }
 
 fn rings(t: &mut Tester) {
-    for (side, heights, rings) in RINGS {
+    for (rule, side, heights, rings) in RINGS {
         for (post, &(codes, k, mark)) in (0..).zip(rings) {
-            let call = Call { post, ring: vec![9; 8], ..square(Kind::Ring, side, heights) };
+            let call = square(Kind::Ring, rule, side, heights);
+            let call = Call { post, ring: vec![9; 8], ..call };
             t.case(t.agree(&call).and_then(|(answer, left)| {
                 law(left.ring == codes, "the codes", &call)?;
                 law(answer == [0, 0, k, mark], "k and the mark", &call)
@@ -139,8 +187,8 @@ fn rings(t: &mut Tester) {
 }
 
 fn lines(t: &mut Tester) {
-    for (kind, side, heights, post, run, room, code, line) in LINES {
-        let call = Call { post, run, line: vec![9; room], ..square(kind, side, heights) };
+    for (kind, rule, side, heights, post, run, room, code, line) in LINES {
+        let call = Call { post, run, line: vec![9; room], ..square(kind, rule, side, heights) };
         t.case(t.agree(&call).and_then(|(answer, left)| {
             law(answer[0] == code, "the code", &call)?;
             law(left.line == line, "the line", &call)

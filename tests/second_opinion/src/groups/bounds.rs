@@ -4,15 +4,26 @@ use super::{good, shows_mark};
 use crate::call::{Call, Kind, KINDS};
 use crate::opinion::file_of;
 use crate::plots::{ground, Chance};
-use crate::tester::{law, Tester};
+use crate::sheet::sheet_of;
+use crate::surface::{Plot, Rule, RULES};
+use crate::tester::{law, Outcome, Tester};
+
+/// Every kind of call that has a plot, by every rule; a file goes by none.
+fn kinds_and_rules() -> impl Iterator<Item = (Kind, Rule)> {
+    let plots = KINDS.into_iter().filter(|&kind| kind != Kind::Settings);
+    plots.flat_map(|kind| {
+        let rules = if kind.takes_sheet() { &RULES[..] } else { &RULES[..1] };
+        rules.iter().map(move |&rule| (kind, rule))
+    })
+}
 
 pub fn sides(t: &mut Tester, chance: &mut Chance) {
     t.group("sides at and beyond the bounds");
     let sides = [0, 1, 2, 3, 119, 120, 121, 122, 255, 256, 65535, 65536, 1 << 31, u32::MAX];
-    for kind in KINDS {
+    for (kind, rule) in kinds_and_rules() {
         for rows in sides {
             for columns in sides {
-                let call = flat(kind, rows, columns, chance);
+                let call = flat(kind, rule, rows, columns, chance);
                 // A file has one byte for each side.
                 if kind == Kind::ReadSurvey && rows.max(columns) > 255 {
                     continue;
@@ -31,13 +42,15 @@ pub fn sides(t: &mut Tester, chance: &mut Chance) {
     }
 }
 
-/// A flat sheet with as many posts as the sides' product, or what is left of it in
+/// A flat plot with as many posts as the sides' product, or what is left of it in
 /// 32 or 16 bits.
-fn flat(kind: Kind, rows: u32, columns: u32, chance: &mut Chance) -> Call {
+fn flat(kind: Kind, rule: Rule, rows: u32, columns: u32, chance: &mut Chance) -> Call {
     let product = rows as u64 * columns as u64;
     let posts = [product, product & 0xffff_ffff, product & 0xffff, 4];
     let posts = posts.into_iter().find(|&n| n <= 15_000).unwrap() as usize;
-    let mut call = good(kind, 1, posts.max(1), &vec![0; posts.max(1)], chance);
+    let heights = vec![0; posts.max(1)];
+    let row = Plot { rule, rows: 1, columns: heights.len(), heights: &heights };
+    let mut call = good(kind, &row, chance);
     (call.rows, call.columns, call.post) = (rows, columns, 0);
     if kind == Kind::ReadSurvey {
         call.file = file_of(rows as u8, columns as u8, &vec![0; posts]);
@@ -68,10 +81,11 @@ const HEIGHTS: [i32; 12] = [
 pub fn heights(t: &mut Tester, chance: &mut Chance) {
     t.group("heights at and beyond the bounds");
     let within = |h: i32| (-1_000_000..=1_000_000).contains(&h);
-    for kind in KINDS {
+    for (kind, rule) in kinds_and_rules() {
+        let plot = Plot { rule, rows: 3, columns: 2, heights: &[2, 0, 0, 3, 1, 0] };
         for height in HEIGHTS {
             for post in 0..6 {
-                let mut call = good(kind, 3, 2, &[2, 0, 0, 3, 1, 0], chance);
+                let mut call = good(kind, &plot, chance);
                 if kind == Kind::ReadSurvey {
                     let tenths = height.checked_mul(10).unwrap_or(height);
                     call.file[7 + 4 * post..][..4].copy_from_slice(&tenths.to_be_bytes());
@@ -84,7 +98,7 @@ pub fn heights(t: &mut Tester, chance: &mut Chance) {
                 }));
             }
             if kind == Kind::Reshoot {
-                let mut call = good(kind, 3, 2, &[2, 0, 0, 3, 1, 0], chance);
+                let mut call = good(kind, &plot, chance);
                 call.height = height;
                 t.case(t.agree(&call).and_then(|(answer, _)| {
                     law((answer[0] == 6) != within(height), "refusal 6", &call)
@@ -98,29 +112,12 @@ pub fn posts_and_runs(t: &mut Tester, chance: &mut Chance) {
     t.group("posts and runs at and beyond the end");
     let kinds =
         [Kind::Reshoot, Kind::Ring, Kind::NextDown, Kind::NextUp, Kind::Thalweg, Kind::Ridge];
-    for kind in kinds {
+    for (kind, rule) in kinds.into_iter().flat_map(|kind| RULES.map(|rule| (kind, rule))) {
         for (rows, columns) in [(2, 2), (3, 4), (120, 120)] {
-            let posts = (rows * columns) as u32;
-            let sheet = ground("few heights", rows, columns, chance);
-            let base = good(kind, rows, columns, &sheet, chance);
-            for post in [
-                0,
-                posts - 1,
-                posts,
-                posts + 1,
-                65534,
-                65535,
-                65536,
-                65536 + posts - 1,
-                i32::MAX as u32,
-                1 << 31,
-                u32::MAX,
-            ] {
-                let call = Call { post, ..base.clone() };
-                t.case(t.agree(&call).and_then(|(answer, _)| {
-                    law((answer[0] == 5) == (post >= posts), "refusal 5", &call)
-                }));
-            }
+            let heights = ground("few heights", rows, columns, chance);
+            let plot = Plot { rule, rows, columns, heights: &heights };
+            let base = good(kind, &plot, chance);
+            posts_of(t, &base);
             if matches!(kind, Kind::Thalweg | Kind::Ridge) {
                 for run in [0, 1, 2, 3, 4, 5, 255, 256, 65535, 65536, 1 << 31, u32::MAX] {
                     t.case(t.agree(&Call { run, ..base.clone() }).map(drop));
@@ -130,22 +127,59 @@ pub fn posts_and_runs(t: &mut Tester, chance: &mut Chance) {
     }
 }
 
+/// The call for posts at the plot's end and beyond.
+fn posts_of(t: &mut Tester, base: &Call) {
+    let posts = base.heights.len() as u32;
+    for post in [
+        0,
+        posts - 1,
+        posts,
+        posts + 1,
+        65534,
+        65535,
+        65536,
+        65536 + posts - 1,
+        i32::MAX as u32,
+        1 << 31,
+        u32::MAX,
+    ] {
+        let call = Call { post, ..base.clone() };
+        t.case(
+            t.agree(&call).and_then(|(answer, _)| {
+                law((answer[0] == 5) == (post >= posts), "refusal 5", &call)
+            }),
+        );
+    }
+}
+
 pub fn lengths(t: &mut Tester, chance: &mut Chance) {
     t.group("lengths of lists");
-    for kind in KINDS {
-        let base = good(kind, 3, 3, &[0, 2, 0, 2, 1, 2, 0, 2, 0], chance);
-        for call in with_lengths(base) {
-            t.case(t.agree(&call).map(drop));
+    for rule in RULES {
+        let star = Plot { rule, rows: 3, columns: 3, heights: &[0, 2, 0, 2, 1, 2, 0, 2, 0] };
+        for kind in KINDS {
+            let mut base = good(kind, &star, chance);
+            if kind.takes_sheet() {
+                base.sheet = sheet_of(&[(1, &[rule as u8])]);
+            }
+            for call in with_lengths(base) {
+                t.case(t.agree(&call).map(drop));
+            }
         }
     }
 }
 
 /// The call with each list that its kind lends at each length, one with another.
 fn with_lengths(base: Call) -> Vec<Call> {
-    let (kind, file) = (base.kind, base.file.len());
-    let calls = resized(vec![base], 9, |call| &mut call.heights);
+    let (kind, sheet, file) = (base.kind, base.sheet.len(), base.file.len());
+    let mut calls = vec![base];
+    if kind.takes_sheet() {
+        calls = resized(calls, sheet, |call| &mut call.sheet);
+    }
+    if kind == Kind::Settings {
+        return resized(calls, 32, |call| &mut call.name);
+    }
+    let calls = resized(calls, 9, |call| &mut call.heights);
     match kind {
-        Kind::NextDown | Kind::NextUp => calls,
         Kind::Survey | Kind::Reshoot => resized(calls, 9, |call| &mut call.marks),
         Kind::Ring => resized(calls, 8, |call| &mut call.ring),
         Kind::Thalweg | Kind::Ridge => resized(calls, 9, |call| &mut call.line),
@@ -154,6 +188,7 @@ fn with_lengths(base: Call) -> Vec<Call> {
             let calls = resized(calls, 9, |call| &mut call.dales);
             resized(calls, 9, |call| &mut call.hills)
         }
+        _ => calls,
     }
 }
 
@@ -174,23 +209,34 @@ fn resized<T: Clone + Default>(
     all
 }
 
-/// A call remembers nothing: the same list may be lent as another shape.
+/// A call remembers nothing: the same lists may be lent in another shape, and by the
+/// other rule.
 pub fn other_shape(t: &mut Tester, chance: &mut Chance) {
-    t.group("a sheet lent in another shape");
-    for _ in 0..200 {
-        let heights = ground("few heights", 4, 4, chance);
-        let (_, left) = match t.agree(&good(Kind::Survey, 4, 4, &heights, chance)) {
-            Ok(done) => done,
-            Err(why) => return t.case(Err(why)),
-        };
-        for (rows, columns) in [(2, 8), (8, 2)] {
-            let mut call = good(Kind::Reshoot, rows, columns, &heights, chance);
-            call.marks = left.marks.clone();
-            t.case(t.agree(&call).and_then(|(answer, left)| {
-                law(answer[0] == 0, "another shape is accepted", &call)?;
-                let ring = good(Kind::Ring, rows, columns, &left.heights, chance);
-                shows_mark(t, &Call { post: call.post, ..ring }, &left.marks)
-            }));
+    t.group("lists lent in another shape and by the other rule");
+    for (rule, other) in [(Rule::Lowest, Rule::Highest), (Rule::Highest, Rule::Lowest)] {
+        for _ in 0..100 {
+            let heights = ground("few heights", 4, 4, chance);
+            let plot = Plot { rule, rows: 4, columns: 4, heights: &heights };
+            let (_, left) = match t.agree(&good(Kind::Survey, &plot, chance)) {
+                Ok(done) => done,
+                Err(why) => return t.case(Err(why)),
+            };
+            for (rule, rows, columns) in
+                [(rule, 2, 8), (rule, 8, 2), (other, 2, 8), (other, 8, 2), (other, 4, 4)]
+            {
+                let plot = Plot { rule, rows, columns, heights: &heights };
+                t.case(lent_anew(t, &plot, &left.marks, chance));
+            }
         }
     }
+}
+
+/// A re-shoot with marks that were those of another plot.
+fn lent_anew(t: &Tester, plot: &Plot, marks: &[u8], chance: &mut Chance) -> Outcome {
+    let call = Call { marks: marks.to_vec(), ..good(Kind::Reshoot, plot, chance) };
+    let (answer, left) = t.agree(&call)?;
+    law(answer[0] == 0, "another shape or rule is accepted", &call)?;
+    let plot = Plot { heights: &left.heights, ..*plot };
+    let ring = Call { post: call.post, ..good(Kind::Ring, &plot, chance) };
+    shows_mark(t, &ring, &left.marks)
 }

@@ -3,11 +3,20 @@
 use super::good;
 use crate::call::{Call, Kind};
 use crate::opinion::file_of;
-use crate::plots::{ground, Chance, GROUNDS};
+use crate::plots::{ground, in_tenths, Chance, GROUNDS, UNEVEN};
+use crate::sheet::DEFAULT_RULE;
+use crate::surface::Plot;
 use crate::tester::{law, Outcome, Tester};
 
 pub fn read(file: Vec<u8>, room: usize) -> Call {
     Call { kind: Kind::ReadSurvey, file, heights: vec![77; room], ..Call::default() }
+}
+
+/// A file that is accepted: the plot's heights, with tenths added.
+pub fn filed(plot: &Plot, chance: &mut Chance) -> Call {
+    let tenths = in_tenths(plot.heights, &UNEVEN, chance);
+    let heights = chance.shorts(plot.posts()).iter().map(|&h| h as i32).collect();
+    Call { heights, ..read(file_of(plot.rows as u8, plot.columns as u8, &tenths), 0) }
 }
 
 pub fn round_trip(t: &mut Tester, chance: &mut Chance, times: usize) {
@@ -20,22 +29,18 @@ pub fn round_trip(t: &mut Tester, chance: &mut Chance, times: usize) {
             _ => (2 + chance.below(20), 2 + chance.below(20)),
         };
         let heights = ground(GROUNDS[i % GROUNDS.len()], rows, columns, chance);
-        t.case(one_round_trip(t, rows, columns, &heights, chance));
+        let plot = Plot { rule: DEFAULT_RULE, rows, columns, heights: &heights };
+        t.case(one_round_trip(t, &plot, chance));
     }
 }
 
 /// A file read, what it held written, and that read back.
-fn one_round_trip(
-    t: &Tester,
-    rows: usize,
-    columns: usize,
-    heights: &[i32],
-    chance: &mut Chance,
-) -> Outcome {
-    let (_, held) = t.agree(&good(Kind::ReadSurvey, rows, columns, heights, chance))?;
-    let (_, written) = t.agree(&good(Kind::WriteSurvey, rows, columns, &held.heights, chance))?;
+fn one_round_trip(t: &Tester, plot: &Plot, chance: &mut Chance) -> Outcome {
+    let (_, held) = t.agree(&good(Kind::ReadSurvey, plot, chance))?;
+    let plot = Plot { heights: &held.heights, ..*plot };
+    let (_, written) = t.agree(&good(Kind::WriteSurvey, &plot, chance))?;
     let (answer, back) = t.agree(&read(written.file, held.heights.len()))?;
-    law(answer == [0, 0, rows as u32, columns as u32], "the sides come back", &back)?;
+    law(answer == [0, 0, plot.rows as u32, plot.columns as u32], "the sides come back", &back)?;
     law(back.heights == held.heights, "the heights come back", &back)
 }
 

@@ -3,18 +3,22 @@
 use super::good;
 use crate::call::{Call, Kind, KINDS};
 use crate::plots::{ground, Chance};
-use crate::surface::Plot;
+use crate::samples::{spoil_frame, BAD_ENTRIES};
+use crate::sheet::sheet_of;
+use crate::surface::{Plot, RULES};
 use crate::tester::{law, Outcome, Tester};
 
 /// The rows of the table that a call has a use for, the first that holds wins.
 fn table(kind: Kind) -> &'static [u32] {
     match kind {
-        Kind::Survey | Kind::DalesAndHills | Kind::WriteSurvey => &[1, 2, 3, 4],
-        Kind::Reshoot => &[1, 2, 3, 4, 5, 6],
-        Kind::Ring => &[1, 2, 3, 4, 5],
-        Kind::NextDown | Kind::NextUp => &[1, 2, 4, 5],
-        Kind::Thalweg | Kind::Ridge => &[1, 2, 4, 5, 7, 8, 9],
+        Kind::Settings => &[13, 14, 3],
+        Kind::Survey | Kind::DalesAndHills => &[13, 14, 1, 2, 3, 4],
+        Kind::Reshoot => &[13, 14, 1, 2, 3, 4, 5, 6],
+        Kind::Ring => &[13, 14, 1, 2, 3, 4, 5],
+        Kind::NextDown | Kind::NextUp => &[13, 14, 1, 2, 4, 5],
+        Kind::Thalweg | Kind::Ridge => &[13, 14, 1, 2, 4, 5, 7, 8, 9],
         Kind::ReadSurvey => &[10, 11, 1, 12, 3, 4],
+        Kind::WriteSurvey => &[1, 2, 3, 4],
     }
 }
 
@@ -40,7 +44,8 @@ pub fn spoil(call: &mut Call, row: u32, chance: &mut Chance) -> u32 {
         6 => call.height = chance.of(&BAD_HEIGHTS),
         7 => {
             let (rows, columns) = (call.rows as usize, call.columns as usize);
-            let plot = Plot { rows, columns, heights: &call.heights };
+            let rule = call.rule().unwrap();
+            let plot = Plot { rule, rows, columns, heights: &call.heights };
             let others: Vec<usize> = (0..plot.posts()).filter(|&p| !plot.is_saddle(p)).collect();
             call.post = chance.of(&others) as u32;
         }
@@ -52,6 +57,8 @@ pub fn spoil(call: &mut Call, row: u32, chance: &mut Chance) -> u32 {
         10 => call.file.truncate(chance.below(7)),
         11 => call.file[0] = chance.of(&[0, 2, 3, 128, 255]),
         12 => spoil_count(call, chance),
+        13 => spoil_frame(&mut call.sheet, chance),
+        14 => call.sheet = sheet_of(chance.of(&BAD_ENTRIES)),
         _ => panic!("no such row: {row}"),
     }
     0
@@ -79,6 +86,7 @@ fn spoil_sides(call: &mut Call, chance: &mut Chance) {
 /// Resizes what is lent beside the heights, or the heights that a file is read into.
 fn spoil_lists(call: &mut Call, chance: &mut Chance) {
     match call.kind {
+        Kind::Settings => resize(&mut call.name, chance),
         Kind::Survey | Kind::Reshoot => resize(&mut call.marks, chance),
         Kind::Ring => resize(&mut call.ring, chance),
         Kind::WriteSurvey => resize(&mut call.file, chance),
@@ -169,7 +177,7 @@ fn sets(table: &[u32]) -> Vec<Vec<u32>> {
 
 /// A call of which these rows hold, and the place that it must be refused with.
 fn spoiled(kind: Kind, rows: &[u32], chance: &mut Chance) -> (Call, u32) {
-    let mut call = sheet_with_saddle(kind, chance);
+    let mut call = with_saddle(kind, chance);
     let mut place = 0;
     // The upper rows last, so that none of the lower is undone.
     for &row in rows.iter().rev() {
@@ -192,14 +200,14 @@ fn refused(t: &Tester, call: &Call, rows: &[u32], place: u32) -> Outcome {
 }
 
 /// A good call; a line call for any run of any saddle.
-fn sheet_with_saddle(kind: Kind, chance: &mut Chance) -> Call {
+fn with_saddle(kind: Kind, chance: &mut Chance) -> Call {
     loop {
         let (rows, columns) = (2 + chance.below(6), 2 + chance.below(6));
         let heights = ground("few heights", rows, columns, chance);
-        let plot = Plot { rows, columns, heights: &heights };
+        let plot = Plot { rule: chance.of(&RULES), rows, columns, heights: &heights };
         let saddles: Vec<usize> = (0..plot.posts()).filter(|&p| plot.is_saddle(p)).collect();
         if !saddles.is_empty() {
-            let mut call = good(kind, rows, columns, &heights, chance);
+            let mut call = good(kind, &plot, chance);
             if matches!(kind, Kind::Thalweg | Kind::Ridge) {
                 let saddle = chance.of(&saddles);
                 call.post = saddle as u32;

@@ -4,34 +4,26 @@ use super::{good, WAYS};
 use crate::call::{Call, Kind};
 use crate::opinion::in_one_piece;
 use crate::plots::{any_plot, ground, Chance, GROUNDS};
-use crate::surface::{Plot, Way, VIRTUAL_PIT};
+use crate::surface::{Plot, Rule, Way, RULES, VIRTUAL_PIT};
 use crate::tester::{law, Outcome, Tester};
 
 /// Everything about one plot. Of a plot with more than `most` posts only so
 /// many, by chance, are asked for their rings, their next posts and their lines.
-pub fn whole_plot(
-    t: &Tester,
-    rows: usize,
-    columns: usize,
-    heights: &[i32],
-    most: usize,
-    chance: &mut Chance,
-) -> Outcome {
-    let plot = Plot { rows, columns, heights };
+pub fn whole_plot(t: &Tester, plot: &Plot, most: usize, chance: &mut Chance) -> Outcome {
     let posts = plot.posts();
-    let marks = survey(t, &plot, chance)?;
-    let parted = parting(t, &plot, &marks, chance)?;
+    let marks = survey(t, plot, chance)?;
+    let parted = parting(t, plot, &marks, chance)?;
     let asked = if posts > most { chance.some(most, posts) } else { (0..posts).collect() };
-    rings(t, &plot, &marks, &asked, chance)?;
+    rings(t, plot, &marks, &asked, chance)?;
     for ((way, next, line), names) in WAYS.into_iter().zip([&parted.dales, &parted.hills]) {
-        let steps = next_posts(t, &plot, way, good(next, rows, columns, heights, chance), &asked)?;
+        let steps = next_posts(t, plot, way, good(next, plot, chance), &asked)?;
         if asked.len() == posts {
             walks_end_at(names, &steps, &parted)?;
         }
-        let call = good(line, rows, columns, heights, chance);
+        let call = good(line, plot, chance);
         for &post in &asked {
             let call = Call { post: post as u32, ..call.clone() };
-            lines_of(t, &plot, way, call, marks[post])?;
+            lines_of(t, plot, way, call, marks[post])?;
         }
     }
     Ok(())
@@ -39,7 +31,7 @@ pub fn whole_plot(
 
 /// The marks of a survey, in balance.
 fn survey(t: &Tester, plot: &Plot, chance: &mut Chance) -> Result<Vec<u8>, String> {
-    let call = good(Kind::Survey, plot.rows, plot.columns, plot.heights, chance);
+    let call = good(Kind::Survey, plot, chance);
     let (answer, left) = t.agree(&call)?;
     law(answer[0] == 0, "a survey is accepted", &call)?;
     law(answer[2] + answer[3] == answer[4] + 2, "peaks + pits - saddles = 2", &call)?;
@@ -48,7 +40,7 @@ fn survey(t: &Tester, plot: &Plot, chance: &mut Chance) -> Result<Vec<u8>, Strin
 
 /// The ring of each that is asked is the grounds of the survey's mark.
 fn rings(t: &Tester, plot: &Plot, marks: &[u8], asked: &[usize], chance: &mut Chance) -> Outcome {
-    let mut call = good(Kind::Ring, plot.rows, plot.columns, plot.heights, chance);
+    let mut call = good(Kind::Ring, plot, chance);
     let mut seen = [0; 5];
     for &post in asked {
         call.post = post as u32;
@@ -90,7 +82,7 @@ fn lower_runs(codes: &[u8]) -> u32 {
 
 /// The dales and hills, named by the marked pits and peaks, each in one piece.
 fn parting(t: &Tester, plot: &Plot, marks: &[u8], chance: &mut Chance) -> Result<Call, String> {
-    let call = good(Kind::DalesAndHills, plot.rows, plot.columns, plot.heights, chance);
+    let call = good(Kind::DalesAndHills, plot, chance);
     let (answer, left) = t.agree(&call)?;
     law(answer[0] == 0, "dales and hills are accepted", &call)?;
     for (names, mark, way) in [(&left.dales, 2, Way::Down), (&left.hills, 1, Way::Up)] {
@@ -176,6 +168,12 @@ fn lines_of(t: &Tester, plot: &Plot, way: Way, mut call: Call, mark: u8) -> Outc
 }
 
 /// Every plot of a size over so many heights.
+fn every_plot(rows: usize, columns: usize, levels: i32) -> impl Iterator<Item = Vec<i32>> {
+    let posts = (rows * columns) as u32;
+    (0..levels.pow(posts)).map(move |n| (0..posts).map(|p| n / levels.pow(p) % levels).collect())
+}
+
+/// Every plot of a size over so many heights, by each rule.
 pub fn exhaustive(t: &mut Tester, chance: &mut Chance, long: bool) {
     let mut sizes = vec![(2, 2, 4), (2, 3, 4), (3, 2, 4), (3, 3, 3), (2, 4, 2), (4, 2, 2)];
     if long {
@@ -183,11 +181,11 @@ pub fn exhaustive(t: &mut Tester, chance: &mut Chance, long: bool) {
     }
     for (rows, columns, levels) in sizes {
         t.group(&format!("all plots {rows} by {columns} over {levels} heights"));
-        let posts = rows * columns;
-        for number in 0..(levels as u32).pow(posts as u32) {
-            let digit = |p: usize| (number / (levels as u32).pow(p as u32)) as i32 % levels;
-            let heights: Vec<i32> = (0..posts).map(digit).collect();
-            t.case(whole_plot(t, rows, columns, &heights, posts, chance));
+        for heights in every_plot(rows, columns, levels) {
+            for rule in RULES {
+                let plot = Plot { rule, rows, columns, heights: &heights };
+                t.case(whole_plot(t, &plot, plot.posts(), chance));
+            }
         }
     }
 }
@@ -196,19 +194,21 @@ pub fn small_random(t: &mut Tester, chance: &mut Chance, times: usize) {
     t.group("plots up to 12 by 12 by chance");
     for i in 0..times {
         let (rows, columns, heights) = any_plot(i, 12, chance);
-        t.case(whole_plot(t, rows, columns, &heights, 40, chance));
+        let plot = Plot { rule: RULES[i % 2], rows, columns, heights: &heights };
+        t.case(whole_plot(t, &plot, 40, chance));
     }
 }
 
 pub fn large_random(t: &mut Tester, chance: &mut Chance, times: usize) {
     t.group("large plots and strips");
-    for _ in 0..times {
+    for i in 0..times {
         for kind in GROUNDS {
             let mut sizes = vec![(120, 120), (2, 120), (120, 2), (3, 120), (120, 3)];
             sizes.extend([(); 4].map(|()| (2 + chance.below(119), 2 + chance.below(119))));
             for (rows, columns) in sizes {
                 let heights = ground(kind, rows, columns, chance);
-                t.case(whole_plot(t, rows, columns, &heights, 30, chance));
+                let plot = Plot { rule: RULES[i % 2], rows, columns, heights: &heights };
+                t.case(whole_plot(t, &plot, 30, chance));
             }
         }
     }
@@ -224,18 +224,68 @@ pub fn every_post(t: &mut Tester, chance: &mut Chance, long: bool) {
     for (rows, columns) in sizes {
         for kind in GROUNDS {
             let heights = ground(kind, rows, columns, chance);
-            t.case(whole_plot(t, rows, columns, &heights, rows * columns, chance));
+            for rule in RULES {
+                let plot = Plot { rule, rows, columns, heights: &heights };
+                t.case(whole_plot(t, &plot, plot.posts(), chance));
+            }
         }
     }
     // The spirals are what they are meant to be: long walks.
     for (kind, way) in [("spiral", Way::Down), ("upward spiral", Way::Up)] {
         let heights = ground(kind, 120, 120, chance);
-        let plot = Plot { rows: 120, columns: 120, heights: &heights };
-        let (mut post, mut steps) = (121, 0);
-        while post != VIRTUAL_PIT && plot.next(post, way) != post {
-            post = plot.next(post, way);
-            steps += 1;
+        for rule in RULES {
+            let plot = Plot { rule, rows: 120, columns: 120, heights: &heights };
+            let steps = walk(&plot, 121, way);
+            t.case(if steps > 6000 { Ok(()) } else { Err(format!("{kind}: {steps} steps")) });
         }
-        t.case(if steps > 6000 { Ok(()) } else { Err(format!("{kind}: {steps} steps")) });
     }
+}
+
+/// The steps of a walk to its end.
+fn walk(plot: &Plot, mut post: usize, way: Way) -> usize {
+    let mut steps = 0;
+    while post != VIRTUAL_PIT && plot.next(post, way) != post {
+        post = plot.next(post, way);
+        steps += 1;
+    }
+    steps
+}
+
+/// What one rule cuts, the other cuts in the plot turned upside down.
+pub fn upside_down(t: &mut Tester, chance: &mut Chance, times: usize) {
+    t.group("plots upside down by the other rule");
+    for heights in every_plot(3, 3, 3) {
+        let plot = Plot { rule: Rule::Highest, rows: 3, columns: 3, heights: &heights };
+        t.case(turned(t, &plot, chance));
+    }
+    for i in 0..times {
+        let (rows, columns, heights) = any_plot(i, 12, chance);
+        let plot = Plot { rule: Rule::Highest, rows, columns, heights: &heights };
+        t.case(turned(t, &plot, chance));
+    }
+}
+
+/// The plot beside itself with its heights negated and its posts in reverse order, so that
+/// ties turn too, by the first rule: off the border, where no ring has the virtual pit, peaks
+/// and pits change places and saddles stay what they are, as do next down and next up.
+fn turned(t: &Tester, plot: &Plot, chance: &mut Chance) -> Outcome {
+    let heights: Vec<i32> = plot.heights.iter().rev().map(|h| -h).collect();
+    let other = Plot { rule: Rule::Lowest, heights: &heights, ..*plot };
+    let (marks, others) = (survey(t, plot, chance)?, survey(t, &other, chance)?);
+    for post in (0..plot.posts()).filter(|&post| !plot.ring(post).contains(&VIRTUAL_PIT)) {
+        let there = plot.posts() - 1 - post;
+        let mark = match others[there] {
+            1 => 2,
+            2 => 1,
+            mark => mark,
+        };
+        for (one, another) in [(Kind::NextDown, Kind::NextUp), (Kind::NextUp, Kind::NextDown)] {
+            let call = Call { post: post as u32, ..good(one, plot, chance) };
+            let turned = Call { post: there as u32, ..good(another, &other, chance) };
+            let (next, other) = (t.agree(&call)?.0[2], t.agree(&turned)?.0[2]);
+            law(marks[post] == mark, "a mark upside down", &call)?;
+            law((next + other) as usize == plot.posts() - 1, "a step upside down", &call)?;
+        }
+    }
+    Ok(())
 }
