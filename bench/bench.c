@@ -1,8 +1,8 @@
 /*
  * The library against its C twin, in one run, the three builds taking turns on
- * the same lists. Times are medians, in nanoseconds a post. The lists are warm
- * and are not cleared between calls. The status is 0 where all builds agree on
- * every answer and list, however long they took.
+ * the same lists, by either rule. Times are medians, in nanoseconds a post. The
+ * lists are warm and are not cleared between calls. The status is 0 where all
+ * builds agree on every answer and list, however long they took.
  *
  *     bench [rounds]
  */
@@ -20,27 +20,31 @@ TWIN_DECLARE(vector);
 
 /* One build of the calls. */
 typedef struct {
-    sn_counts (*survey)(uint32_t, uint32_t, const int32_t *, size_t, uint8_t *, size_t);
-    sn_answer (*reshoot)(uint32_t, uint32_t, int32_t *, size_t, uint8_t *, size_t,
-                         uint32_t, int32_t);
-    sn_ring_mark (*ring)(uint32_t, uint32_t, const int32_t *, size_t, uint32_t,
-                         uint8_t *, size_t);
-    sn_next (*next_down)(uint32_t, uint32_t, const int32_t *, size_t, uint32_t);
-    sn_next (*next_up)(uint32_t, uint32_t, const int32_t *, size_t, uint32_t);
-    sn_entries (*thalweg)(uint32_t, uint32_t, const int32_t *, size_t, uint32_t, uint32_t,
-                          uint16_t *, size_t);
-    sn_entries (*ridge)(uint32_t, uint32_t, const int32_t *, size_t, uint32_t, uint32_t,
-                        uint16_t *, size_t);
-    sn_answer (*dales_and_hills)(uint32_t, uint32_t, const int32_t *, size_t,
-                                 uint16_t *, size_t, uint16_t *, size_t);
+    sn_sheet (*settings)(const uint8_t *, size_t, uint8_t *, size_t);
+    sn_counts (*survey)(const uint8_t *, size_t, uint32_t, uint32_t, const int32_t *, size_t,
+                        uint8_t *, size_t);
+    sn_answer (*reshoot)(const uint8_t *, size_t, uint32_t, uint32_t, int32_t *, size_t,
+                         uint8_t *, size_t, uint32_t, int32_t);
+    sn_ring_mark (*ring)(const uint8_t *, size_t, uint32_t, uint32_t, const int32_t *, size_t,
+                         uint32_t, uint8_t *, size_t);
+    sn_next (*next_down)(const uint8_t *, size_t, uint32_t, uint32_t, const int32_t *, size_t,
+                         uint32_t);
+    sn_next (*next_up)(const uint8_t *, size_t, uint32_t, uint32_t, const int32_t *, size_t,
+                       uint32_t);
+    sn_entries (*thalweg)(const uint8_t *, size_t, uint32_t, uint32_t, const int32_t *, size_t,
+                          uint32_t, uint32_t, uint16_t *, size_t);
+    sn_entries (*ridge)(const uint8_t *, size_t, uint32_t, uint32_t, const int32_t *, size_t,
+                        uint32_t, uint32_t, uint16_t *, size_t);
+    sn_answer (*dales_and_hills)(const uint8_t *, size_t, uint32_t, uint32_t, const int32_t *,
+                                 size_t, uint16_t *, size_t, uint16_t *, size_t);
     sn_size (*read_survey)(const uint8_t *, size_t, int32_t *, size_t);
     sn_answer (*write_survey)(uint32_t, uint32_t, const int32_t *, size_t, uint8_t *, size_t);
 } calls;
 
 #define CALLS(prefix)                                                                 \
-    {prefix##_survey, prefix##_reshoot, prefix##_ring, prefix##_next_down,            \
-     prefix##_next_up, prefix##_thalweg, prefix##_ridge, prefix##_dales_and_hills,    \
-     prefix##_read_survey, prefix##_write_survey}
+    {prefix##_settings, prefix##_survey, prefix##_reshoot, prefix##_ring,             \
+     prefix##_next_down, prefix##_next_up, prefix##_thalweg, prefix##_ridge,          \
+     prefix##_dales_and_hills, prefix##_read_survey, prefix##_write_survey}
 
 enum { LIBRARY, SCALAR, VECTOR, BUILDS };
 static const calls builds[BUILDS] = {CALLS(sn), CALLS(scalar), CALLS(vector)};
@@ -105,23 +109,42 @@ static void fill(int32_t *heights, int side, int kind)
 
 /* ---- one call on one plot ---- */
 
+/* Those before READ go by a rule. */
 enum {
-    SURVEY, DALES_AND_HILLS, RESHOOT, RING, NEXT_DOWN, NEXT_UP, THALWEG, RIDGE, READ, WRITE, NAMES
+    SURVEY, DALES_AND_HILLS, RESHOOT, RING, NEXT_DOWN, NEXT_UP, THALWEG, RIDGE, READ, WRITE,
+    SETTINGS
 };
-static const char *const call_names[NAMES] = {
+static const char *const call_names[SETTINGS + 1] = {
     "survey", "dales and hills", "re-shoot", "ring", "next down", "next up",
-    "thalweg", "ridge", "read", "write"
+    "thalweg", "ridge", "read", "write", "settings"
 };
 
-static uint32_t side, posts, post, run;
+/* The longest sheet: the rule of the highest post, and a name of 32 bytes. */
+static const uint8_t full_sheet[SN_MAX_SHEET] =
+    "\1\0\0\0\45" "\1\1\2" "\2\40" "the field beyond the old orchard";
+
+/* The rules: what sheet means them, and which line is drawn. */
+enum { LOWEST, HIGHEST, RULES };
+static struct {
+    const uint8_t *sheet;
+    size_t length;
+    uint32_t post, run;
+} rules[RULES] = {{NULL, 0, 0, 0}, {full_sheet, SN_MAX_SHEET, 0, 0}};
+
+static uint32_t side, posts;
 static int32_t heights[SN_MAX_POSTS], held[SN_MAX_POSTS];
-static uint8_t marks[SN_MAX_POSTS], ring[SN_RING_LENGTH], file[SN_MAX_FILE];
+static uint8_t marks[SN_MAX_POSTS], ring[SN_RING_LENGTH], file[SN_MAX_FILE], name[SN_MAX_NAME];
 static uint16_t dales[SN_MAX_POSTS], hills[SN_MAX_POSTS], line[SN_MAX_LINE];
 
 /* The sum of an answer's numbers. */
 static uint32_t of_answer(sn_answer a)
 {
     return a.code + a.place;
+}
+
+static uint32_t of_sheet(sn_sheet a)
+{
+    return a.code + a.place + a.rule + 3 * a.name_length;
 }
 
 static uint32_t of_counts(sn_counts a)
@@ -150,33 +173,41 @@ static uint32_t of_size(sn_size a)
 }
 
 /* Calls once; gives the sum of the answer's numbers. */
-static uint32_t once(int build, int name, uint32_t turn)
+static uint32_t once(int build, int rule, int call, uint32_t turn)
 {
     const calls *b = &builds[build];
-    size_t n = posts, file_size = SN_FILE_SIZE(side, side);
-    uint32_t p = turn * 7919 % posts;
+    const uint8_t *sheet = rules[rule].sheet;
+    size_t n = posts, length = rules[rule].length, file_size = SN_FILE_SIZE(side, side);
+    uint32_t p = turn * 7919 % posts, post = rules[rule].post, run = rules[rule].run;
 
-    switch (name) {
+    switch (call) {
     case SURVEY:
-        return of_counts(b->survey(side, side, heights, n, marks, n));
+        return of_counts(b->survey(sheet, length, side, side, heights, n, marks, n));
     case DALES_AND_HILLS:
-        return of_answer(b->dales_and_hills(side, side, heights, n, dales, n, hills, n));
+        return of_answer(b->dales_and_hills(sheet, length, side, side, heights, n, dales, n,
+                                            hills, n));
     case RESHOOT:
-        return of_answer(b->reshoot(side, side, held, n, marks, n, p, heights[(p + turn) % posts]));
+        return of_answer(b->reshoot(sheet, length, side, side, held, n, marks, n, p,
+                                    heights[(p + turn) % posts]));
     case RING:
-        return of_ring_mark(b->ring(side, side, heights, n, p, ring, SN_RING_LENGTH));
+        return of_ring_mark(b->ring(sheet, length, side, side, heights, n, p, ring,
+                                    SN_RING_LENGTH));
     case NEXT_DOWN:
-        return of_next(b->next_down(side, side, heights, n, p));
+        return of_next(b->next_down(sheet, length, side, side, heights, n, p));
     case NEXT_UP:
-        return of_next(b->next_up(side, side, heights, n, p));
+        return of_next(b->next_up(sheet, length, side, side, heights, n, p));
     case THALWEG:
-        return of_entries(b->thalweg(side, side, heights, n, post, run, line, SN_MAX_LINE));
+        return of_entries(b->thalweg(sheet, length, side, side, heights, n, post, run, line,
+                                     SN_MAX_LINE));
     case RIDGE:
-        return of_entries(b->ridge(side, side, heights, n, post, run, line, SN_MAX_LINE));
+        return of_entries(b->ridge(sheet, length, side, side, heights, n, post, run, line,
+                                   SN_MAX_LINE));
     case READ:
         return of_size(b->read_survey(file, file_size, held, n));
-    default:
+    case WRITE:
         return of_answer(b->write_survey(side, side, heights, n, file, file_size));
+    default:
+        return of_sheet(b->settings(sheet, length, name, SN_MAX_NAME));
     }
 }
 
@@ -190,7 +221,7 @@ static uint64_t digest(uint64_t sum, const void *list, size_t size)
 
 /* Some calls from the same start, and a digest of answers and lists. Each turn writes
    all of the ring, so that it is looked at after each. */
-static uint64_t outcome(int build, int name)
+static uint64_t outcome(int build, int rule, int call)
 {
     uint64_t sum = 0;
 
@@ -200,31 +231,41 @@ static uint64_t outcome(int build, int name)
     memset(dales, 0, sizeof dales);
     memset(hills, 0, sizeof hills);
     memset(line, 0, sizeof line);
+    memset(name, 0, sizeof name);
     for (uint32_t turn = 0; turn < 20; turn++)
-        sum = digest(sum * 31 + once(build, name, turn), ring, sizeof ring);
+        sum = digest(sum * 31 + once(build, rule, call, turn), ring, sizeof ring);
     sum = digest(sum, held, sizeof held);
     sum = digest(sum, marks, sizeof marks);
     sum = digest(sum, dales, sizeof dales);
     sum = digest(sum, hills, sizeof hills);
     sum = digest(sum, line, sizeof line);
+    sum = digest(sum, name, sizeof name);
     return digest(sum, file, sizeof file);
 }
 
-/* The line with the most entries, among the first saddles. */
-static void choose_line(int name)
+static uint32_t distance(uint32_t a, uint32_t b)
 {
-    uint32_t best = 0, tried = 0, p0 = 0, run0 = 0;
+    return a < b ? b - a : a - b;
+}
 
-    (void)once(SCALAR, SURVEY, 0);
-    for (uint32_t p = 0; p < posts && tried < 400; p++)
-        for (uint32_t k = 0; marks[p] >= SN_SADDLE_1 && k + 1 < marks[p]; k++) {
-            uint32_t sum;
-            post = p, run = k, tried++;
-            sum = once(SCALAR, name, 0);
-            if (sum > best)
-                best = sum, p0 = p, run0 = k;
+/* Of so many lines, from the first saddle on, the one whose entries are nearest to the number
+   wanted. Gives its entries. */
+static uint32_t choose_line(int rule, int call, uint32_t wanted, uint32_t tries)
+{
+    uint32_t entries = 0, post = 0, run = 0;
+
+    (void)once(SCALAR, rule, SURVEY, 0);
+    for (uint32_t p = 0; p < posts && tries > 0 && entries != wanted; p++)
+        for (uint32_t k = 0; k < SN_SADDLE_RUNS(marks[p]); k++) {
+            uint32_t count;
+            rules[rule].post = p, rules[rule].run = k;
+            count = once(SCALAR, rule, call, 0);
+            if (entries == 0 || distance(count, wanted) < distance(entries, wanted))
+                entries = count, post = p, run = k;
+            tries -= tries > 0;
         }
-    post = p0, run = run0;
+    rules[rule].post = post, rules[rule].run = run;
+    return entries;
 }
 
 /* Puts heights between whole millimetres into the file, halves among them. */
@@ -237,17 +278,18 @@ static void file_tenths(void)
     }
 }
 
-static void prepare(uint32_t a_side, int kind, int name)
+/* By the first rule a long line is drawn, by the second one with as many entries where there
+   is any, so that the two can be compared. */
+static void prepare(uint32_t a_side, int kind, int call)
 {
     side = a_side;
     posts = side * side;
     fill(heights, (int)side, kind);
     memcpy(held, heights, sizeof held);
-    post = run = 0;
-    if (name == THALWEG || name == RIDGE)
-        choose_line(name);
-    (void)once(SCALAR, WRITE, 0);
-    if (name == READ)
+    if (call == THALWEG || call == RIDGE)
+        (void)choose_line(HIGHEST, call, choose_line(LOWEST, call, SN_MAX_LINE, 400), 40000);
+    (void)once(SCALAR, LOWEST, WRITE, 0);
+    if (call == READ)
         file_tenths();
 }
 
@@ -275,91 +317,115 @@ static double median(double *values)
     return values[rounds / 2];
 }
 
+/* Who takes turns: the builds, and where the rules are compared the library by the first. */
+enum { BY_LOWEST = BUILDS, TURNS };
+
+static int is_compared(int rule, int call)
+{
+    return rule == HIGHEST && call < READ;
+}
+
 typedef struct {
-    double time[BUILDS];  /* nanoseconds a post */
-    double ratio[BUILDS]; /* the library's time to this build's */
+    double time[TURNS];  /* nanoseconds a post */
+    double ratio[TURNS]; /* the library's time to this one's */
 } figures;
 
-/* The builds take turns. A ratio is taken within a round, so that a machine that
-   grows slower for a while does not bend it. */
-static figures measure(int name)
+/* A ratio is taken within a round, so that a machine that grows slower for a while does not
+   bend it. */
+static figures measure(int rule, int call)
 {
-    double times[BUILDS][MOST_ROUNDS], ratios[BUILDS][MOST_ROUNDS];
+    double times[TURNS][MOST_ROUNDS], ratios[TURNS][MOST_ROUNDS];
     uint32_t repeats = 1 + 400000 / (posts * 5);
-    figures f;
+    int turns = is_compared(rule, call) ? TURNS : BUILDS;
+    figures f = {{0}, {0}};
 
     for (int round = 0; round < rounds; round++) {
-        for (int build = 0; build < BUILDS; build++) {
+        for (int i = 0; i < turns; i++) {
+            int build = i == BY_LOWEST ? LIBRARY : i, by = i == BY_LOWEST ? LOWEST : rule;
             double start = now();
             for (uint32_t turn = 0; turn < repeats; turn++)
-                (void)once(build, name, turn);
-            times[build][round] = (now() - start) / repeats / posts;
+                (void)once(build, by, call, turn);
+            times[i][round] = (now() - start) / repeats / posts;
         }
-        for (int build = 0; build < BUILDS; build++)
-            ratios[build][round] = times[LIBRARY][round] / times[build][round];
+        for (int i = 0; i < turns; i++)
+            ratios[i][round] = times[LIBRARY][round] / times[i][round];
     }
-    for (int build = 0; build < BUILDS; build++) {
-        f.time[build] = median(times[build]);
-        f.ratio[build] = median(ratios[build]);
+    for (int i = 0; i < turns; i++) {
+        f.time[i] = median(times[i]);
+        f.ratio[i] = median(ratios[i]);
     }
     return f;
 }
 
-static void heading(const char *left, const char *right)
+static void heading(const char *title, const char *right, const char *last)
 {
-    printf("%-16s %-13s %9s %9s %9s %11s %11s %12s\n", left, right, "library", "scalar", "vector",
-           "lib/scalar", "lib/vector", "lib us/call");
+    printf("%s\n\n%-16s %-13s %9s %9s %9s %11s %11s %12s\n", title, "call", right, "library",
+           "scalar", "vector", "lib/scalar", "lib/vector", last);
 }
 
-static int row(const char *left, const char *right, uint32_t a_side, int kind, int name)
+static int row(int rule, const char *right, uint32_t a_side, int kind, int call)
 {
     figures f;
     int agree;
 
-    prepare(a_side, kind, name);
-    agree = outcome(LIBRARY, name) == outcome(SCALAR, name) &&
-            outcome(LIBRARY, name) == outcome(VECTOR, name);
-    prepare(a_side, kind, name);
-    f = measure(name);
-    printf("%-16s %-13s %9.2f %9.2f %9.2f %11.2f %11.2f %12.2f%s\n", left, right,
+    prepare(a_side, kind, call);
+    agree = outcome(LIBRARY, rule, call) == outcome(SCALAR, rule, call) &&
+            outcome(LIBRARY, rule, call) == outcome(VECTOR, rule, call);
+    prepare(a_side, kind, call);
+    f = measure(rule, call);
+    printf("%-16s %-13s %9.2f %9.2f %9.2f %11.2f %11.2f %12.2f%s\n", call_names[call], right,
            f.time[LIBRARY], f.time[SCALAR], f.time[VECTOR], f.ratio[SCALAR], f.ratio[VECTOR],
-           f.time[LIBRARY] * posts / 1000, agree ? "" : "  THEY DISAGREE");
+           is_compared(rule, call) ? f.ratio[BY_LOWEST] : f.time[LIBRARY] * posts / 1000,
+           agree ? "" : "  THEY DISAGREE");
     return agree;
 }
 
-static int by_plot(void)
-{
-    int agree = 1;
+/* The last column: what a call takes, or by the second rule what it takes of the first's. */
+static const char *const last_column[RULES] = {"lib us/call", "lib rule 2/1"};
 
-    printf("Nanoseconds a post at 120 by 120, median of %d rounds, lists warm.\n\n", rounds);
-    heading("call", "plot");
-    for (int name = 0; name < NAMES; name++)
+static int by_plot(int rule)
+{
+    static const char *const titles[RULES] = {
+        "Nanoseconds a post at 120 by 120. Rule 1, no sheet.",
+        "\nNanoseconds a post at 120 by 120. Rule 2, a sheet of 42 bytes."
+    };
+    int agree = 1, end = rule == LOWEST ? SETTINGS : READ;
+
+    heading(titles[rule], "plot", last_column[rule]);
+    for (int call = 0; call < end; call++)
         for (int kind = 0; kind < KINDS; kind++)
-            agree &= row(call_names[name], kind_names[kind], 120, kind, name);
+            agree &= row(rule, kind_names[kind], 120, kind, call);
     return agree;
 }
 
-static int by_size(void)
+static int by_size(int rule)
 {
+    static const char *const titles[RULES] = {"\nBy size. Rule 1.", "\nBy size. Rule 2."};
     static const uint32_t sides[4] = {15, 30, 60, 120};
     int agree = 1;
 
-    printf("\nNanoseconds a post by size.\n\n");
-    heading("call", "side");
-    for (int name = SURVEY; name <= DALES_AND_HILLS; name++)
+    heading(titles[rule], "side", last_column[rule]);
+    for (int call = SURVEY; call <= DALES_AND_HILLS; call++)
         for (int kind = RANDOM; kind <= SPIRAL; kind += SPIRAL)
             for (int i = 0; i < 4; i++) {
                 char label[32];
                 snprintf(label, sizeof label, "%3u %s", (unsigned)sides[i],
                          kind_names[kind]);
-                agree &= row(call_names[name], label, sides[i], kind, name);
+                agree &= row(rule, label, sides[i], kind, call);
             }
     return agree;
 }
 
+/* With one post, times a post are times a call. */
+static int settings(void)
+{
+    heading("\nNanoseconds a call.", "sheet", last_column[LOWEST]);
+    return row(HIGHEST, "42 bytes", 1, FLAT, SETTINGS);
+}
+
 int main(int argc, char **argv)
 {
-    int agree;
+    int agree = 1;
 
     if (argc > 1)
         rounds = atoi(argv[1]);
@@ -367,8 +433,12 @@ int main(int argc, char **argv)
         fprintf(stderr, "usage: bench [rounds, 1 to %d]\n", MOST_ROUNDS);
         return 2;
     }
-    agree = by_plot();
-    agree &= by_size();
+    printf("Medians of %d rounds, lists warm.\n\n", rounds);
+    for (int rule = 0; rule < RULES; rule++) {
+        agree &= by_plot(rule);
+        agree &= by_size(rule);
+    }
+    agree &= settings();
     printf(agree ? "\nAll builds agree.\n" : "\nTHE BUILDS DISAGREE.\n");
     return !agree;
 }

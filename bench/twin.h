@@ -9,22 +9,28 @@
 #include "../include/surface_network.h"
 
 #define TWIN_DECLARE(prefix)                                                   \
-    sn_counts prefix##_survey(uint32_t, uint32_t, const int32_t *, size_t,     \
-                              uint8_t *, size_t);                              \
-    sn_answer prefix##_reshoot(uint32_t, uint32_t, int32_t *, size_t,          \
-                               uint8_t *, size_t, uint32_t, int32_t);          \
-    sn_ring_mark prefix##_ring(uint32_t, uint32_t, const int32_t *, size_t,    \
-                               uint32_t, uint8_t *, size_t);                   \
-    sn_next prefix##_next_down(uint32_t, uint32_t, const int32_t *, size_t,    \
-                               uint32_t);                                      \
-    sn_next prefix##_next_up(uint32_t, uint32_t, const int32_t *, size_t,      \
-                             uint32_t);                                        \
-    sn_entries prefix##_thalweg(uint32_t, uint32_t, const int32_t *, size_t,   \
-                                uint32_t, uint32_t, uint16_t *, size_t);       \
-    sn_entries prefix##_ridge(uint32_t, uint32_t, const int32_t *, size_t,     \
-                              uint32_t, uint32_t, uint16_t *, size_t);         \
-    sn_answer prefix##_dales_and_hills(uint32_t, uint32_t, const int32_t *,    \
-                                       size_t, uint16_t *, size_t, uint16_t *, \
+    sn_sheet prefix##_settings(const uint8_t *, size_t, uint8_t *, size_t);    \
+    sn_counts prefix##_survey(const uint8_t *, size_t, uint32_t, uint32_t,     \
+                              const int32_t *, size_t, uint8_t *, size_t);     \
+    sn_answer prefix##_reshoot(const uint8_t *, size_t, uint32_t, uint32_t,    \
+                               int32_t *, size_t, uint8_t *, size_t, uint32_t, \
+                               int32_t);                                       \
+    sn_ring_mark prefix##_ring(const uint8_t *, size_t, uint32_t, uint32_t,    \
+                               const int32_t *, size_t, uint32_t, uint8_t *,   \
+                               size_t);                                        \
+    sn_next prefix##_next_down(const uint8_t *, size_t, uint32_t, uint32_t,    \
+                               const int32_t *, size_t, uint32_t);             \
+    sn_next prefix##_next_up(const uint8_t *, size_t, uint32_t, uint32_t,      \
+                             const int32_t *, size_t, uint32_t);               \
+    sn_entries prefix##_thalweg(const uint8_t *, size_t, uint32_t, uint32_t,   \
+                                const int32_t *, size_t, uint32_t, uint32_t,   \
+                                uint16_t *, size_t);                           \
+    sn_entries prefix##_ridge(const uint8_t *, size_t, uint32_t, uint32_t,     \
+                              const int32_t *, size_t, uint32_t, uint32_t,     \
+                              uint16_t *, size_t);                             \
+    sn_answer prefix##_dales_and_hills(const uint8_t *, size_t, uint32_t,      \
+                                       uint32_t, const int32_t *, size_t,      \
+                                       uint16_t *, size_t, uint16_t *,         \
                                        size_t);                                \
     sn_size prefix##_read_survey(const uint8_t *, size_t, int32_t *, size_t);  \
     sn_answer prefix##_write_survey(uint32_t, uint32_t, const int32_t *,       \
