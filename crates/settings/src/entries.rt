@@ -22,19 +22,24 @@ const RULE: u8 = 1;
 
 const NAME: u8 = 2;
 
-// Whether a name may have every byte from `at` on.
+// Whether a name may have this byte.
+fn is_printable(byte: u8) -> bool
+    ensures { λ r. ⌜ r ≡ isPrintable byte ⌝ }
+{
+    (32 <= byte) & (byte <= 126)
+}
+
+// Whether a name may have every byte from `at` on: a pass with no branch, so that the compiler makes vector code of it.
 fn are_printable(sheet: &[u8], at: usize) -> bool
     ensures { λ r. ⌜ r ≡ all isPrintable (drop at (now (sheet .entry))) ⌝ }
 {
+    let mut ok = true;
     let mut i = at;
     while i < sheet.len() {
-        let byte = sheet[i];
-        if !((32 <= byte) & (byte <= 126)) {
-            return false;
-        }
+        ok = ok & is_printable(sheet[i]);
         i += 1;
     }
-    true
+    ok
 }
 
 // Whether the entries from `at` on are a name and no more, whose bytes then go to the end.

@@ -3,15 +3,14 @@ mod entries;
 mod frame;
 
 use entries::read_entries;
-use frame::byte_at;
 use frame::is_bad;
 use surface::DEFAULT_RULE;
 use surface::NAME_LENGTH;
 use surface::Sheet;
 ghost use mathlib.Core.Path.{_≡_};
-ghost use Prim.Native.Nat.{_+_, _≤_};
+ghost use Prim.Native.Nat.{_+_, _-_, _≤_, min};
 ghost use lib.ListN.{length, getD};
-ghost use Rattle.surface.specs.Lists.{listOf};
+ghost use Rattle.surface.specs.Lists.{listOf, stores};
 ghost use Rattle.surface.specs.Settings.{nameLength};
 ghost use Rattle.surface.specs.Calls.{sheetSays, settingsAnswer, settingsName};
 ghost use Rattle.settings.specs.Walk.{refusal};
@@ -53,16 +52,48 @@ fn read_bytes(sheet: &[u8]) -> Sheet
     read_entries(sheet)
 }
 
+// Copies n bytes of a sheet from `at` on to the front of a list.
+fn copy_bytes(sheet: &[u8], at: usize, n: usize, list: &mut [u8])
+    requires { ⌜ (at + n ≤ length (now sheet)) × (n ≤ length (now list)) ⌝ }
+    ensures { λ _. ⌜ now (list .exit) ≡ stores (λ i. getD (now (sheet .entry)) (at + i) 0) 0 n (now (list .entry)) ⌝ }
+{
+    let mut i = 0;
+    while i < n {
+        list[i] = sheet[at + i];
+        i += 1;
+    }
+}
+
+// Puts zeros from place n on.
+fn clear_from(list: &mut [u8], n: usize)
+    requires { ⌜ n ≤ length (now list) ⌝ }
+    ensures { λ _. ⌜ now (list .exit) ≡ stores (λ _. 0) n (length (now (list .entry)) - n) (now (list .entry)) ⌝ }
+{
+    let mut i = n;
+    while i < list.len() {
+        list[i] = 0;
+        i += 1;
+    }
+}
+
+// How many of these bytes a name may have.
+fn at_most(bytes: usize) -> usize
+    ensures { λ r. ⌜ r ≡ min bytes nameLength ⌝ }
+{
+    if bytes < NAME_LENGTH {
+        return bytes;
+    }
+    NAME_LENGTH
+}
+
 // Writes the bytes of a sheet from `at` on, and zeros after them.
 fn put_name(sheet: &[u8], at: usize, name: &mut [u8])
     requires { ⌜ (at ≤ length (now sheet)) × (length (now name) ≡ nameLength) ⌝ }
     ensures { λ _. ⌜ now (name .exit) ≡ listOf (λ i. getD (now (sheet .entry)) (at + i) 0) nameLength ⌝ }
 {
-    let mut i = 0;
-    while i < NAME_LENGTH {
-        name[i] = byte_at(sheet, at + i);
-        i += 1;
-    }
+    let n = at_most(sheet.len() - at);
+    copy_bytes(sheet, at, n, name);
+    clear_from(name, n);
 }
 
 // The call: gives the rule and the name's length, and writes the name, with which a sheet ends. Refused: the list stays as it was.
