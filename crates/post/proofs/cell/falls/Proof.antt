@@ -46,6 +46,7 @@ returns c =
     let pl = plotOf (start .args .grid) (start .args .heights .now) in
     let a = start .args .a in
     let k = pl.columns in
+    let h = start .args .turned in
     rw (
       c .later-is-below5 .ensures,
       c .before .later-is-below4 .ensures,
@@ -53,8 +54,8 @@ returns c =
       c .before .before .before .later-is-below2 .ensures,
       c .before .before .before .before .later-is-below .ensures,
     )
-    (flags pl.highest (below pl (a + 1) a) (below pl (a + k) a) (below pl (a + k + 1) a) (below pl (a + k + 1) (a + 1)) (below pl (a + k + 1) (a + k))
-    ∙ sym (falls-by-flags (below pl) (below-strict pl) pl.highest k a (start .pre .0 .sides .wide)))
+    (flags h (below pl (a + 1) a) (below pl (a + k) a) (below pl (a + k + 1) a) (below pl (a + k + 1) (a + 1)) (below pl (a + k + 1) (a + k))
+    ∙ sym (falls-by-flags (below pl) (below-strict pl) h k a (start .pre .0 .sides .wide)))
 
 pub falls-spec : {M : Type 1} → statement M
 falls-spec = tie.close (tie.spec add-east add-south add-across later-is-below-requires later-is-below-requires-2 later-is-below-requires-3 later-is-below-requires-4 later-is-below-requires-5 returns)
