@@ -216,7 +216,7 @@ SN_INLINE const char *sn_code_text(uint32_t code)
     case SN_FILE_TOO_SHORT: return "the file has under 7 bytes";
     case SN_BAD_VERSION: return "the file's version is not 1";
     case SN_BAD_COUNT: return "the file's count does not fit its length and sides";
-    case SN_BAD_SHEET: return "the settings sheet is not whole";
+    case SN_BAD_SHEET: return "the settings sheet is damaged or of another version";
     case SN_BAD_ENTRY: return "the settings sheet has an entry that it may not have";
     default: return "no such code";
     }
@@ -244,7 +244,7 @@ typedef struct sn_counts {
 typedef struct sn_ring_mark {
     uint32_t code, place;
     uint32_t k;    /* lower runs: 1 at a peak, whose ring is all below, 0 at a pit */
-    uint32_t mark; /* what sn_survey writes at the post */
+    uint32_t mark; /* what sn_survey writes at the post by the same rule */
 } sn_ring_mark;
 
 typedef struct sn_next {

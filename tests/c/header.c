@@ -54,7 +54,7 @@ static void codes(void)
     }
     check(strcmp(sn_code_text(SN_BAD_ENTRY + 1), sn_code_text(UINT32_MAX)) == 0, "no such code");
     check(SN_BAD_SHEET == 13 && SN_BAD_ENTRY == 14, "the codes of a sheet");
-    check(strcmp(sn_code_text(13), "the settings sheet is not whole") == 0, "words of 13");
+    check(strcmp(sn_code_text(13), "the settings sheet is damaged or of another version") == 0, "words of 13");
     check(strcmp(sn_code_text(14), "the settings sheet has an entry that it may not have") == 0,
           "words of 14");
 }

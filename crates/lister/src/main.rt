@@ -27,9 +27,9 @@ fn main() {
         io::write_all(STDERR_FILENO, b"lister: standard input cannot be read\n");
         return;
     }
-    let said = settings.bytes;
+    let sheet_bytes = settings.bytes;
     let bytes = input.bytes;
-    if !print_file(&sheet[..said], &file[..bytes]) {
+    if !print_file(&sheet[..sheet_bytes], &file[..bytes]) {
         io::write_all(
             STDERR_FILENO,
             b"lister: standard output cannot be written\n",

@@ -1,4 +1,4 @@
-// The start of a listing: the file is read, the plot surveyed, its dales and hills found, and the first line written.
+// The start of a listing: the sheet and the file are read, the plot surveyed, its dales and hills found, and the first line written.
 use crate::text::put_head;
 use crate::text::put_refused;
 use parts::dales_and_hills;
@@ -37,7 +37,7 @@ fn put_refusal(code: u32, place: u32, out: &mut [u8]) -> Begun
     }
 }
 
-// Writes the N line, or the E line where the file is refused. The sheet says this, and is not refused.
+// Writes the N line, or the E line where the file is refused. `said` is what the sheet says, which is not refused.
 fn put_file(
     sheet: &[u8],
     said: Sheet,

@@ -35,8 +35,8 @@ fn starts(before: bool, corner: bool, after: bool) -> u8
     (!before & (after | corner)) as u8
 }
 
-// The mark by whether the first side is below and the number of lower runs that start: where none does, all members are of one sort. A sum of two terms of which
-// at most one is not 0, and no branch, since a mark is a toss-up that no processor foresees.
+// The mark by whether the first side is below and the number of lower runs that start: where none does, all members are of one sort. A sum of two terms
+// of which at most one is not 0, and no branch, since a mark is a toss-up that no processor foresees.
 fn mark_by(first: bool, runs: u8) -> u8
     requires { ⌜ runs ≤ 8 ⌝ }
     ensures { λ r. ⌜ r ≡ markBy first runs ⌝ }
@@ -46,7 +46,7 @@ fn mark_by(first: bool, runs: u8) -> u8
     saddle + extreme
 }
 
-// The mark of a post round which these are below it.
+// The mark of a post round which these are below it, where cells are cut through their lowest posts, or their highest.
 pub fn mark_of(b: Below, highest: bool) -> u8
     ensures { λ r. ⌜ r ≡ markFrom highest b ⌝ }
 {

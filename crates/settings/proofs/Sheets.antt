@@ -12,7 +12,7 @@ use Rattle.surface.specs.Lists.{listOf}
 use Rattle.surface.specs.Plot.{defaultRule}
 use Rattle.surface.specs.SurveyFile.{wordAt}
 use Rattle.surface.specs.Settings.{entriesIn, entriesOf, extent, isBadSheet, areEntries, hasBadEntry, valueOf, ruleIn, nameIn, nameLength, nameBytes}
-use Rattle.surface.specs.Refusals.{Row, accepted, verdict, row3, row13, row14, sheetVerdict, settingsVerdict}
+use Rattle.surface.specs.Refusals.{Row, accepted, verdict, row3, row13, row14, sheetRows, sheetVerdict, settingsVerdict}
 use Rattle.surface.specs.Calls.{sheetSays, settingsAnswer, settingsName}
 use Rattle.surface.proofs.General.Bools.{either, or-right}
 use Rattle.surface.proofs.General.ListOf.{listOf-ext}
@@ -57,13 +57,13 @@ says-empty (x ∷ s) e = absurd (omega arith)
 -- ---- the call
 
 module _ (s : List ℕ) where
-  abbrev sheetRows : List Row
-  sheetRows = row13 (isBadSheet s) ∷ row14 (hasBadEntry s) ∷ []
+  abbrev rows : List Row
+  rows = sheetRows (isBadSheet s) (hasBadEntry s)
 
   module _ (z : sheetSays s .code ≡ 0) where
     judged : sheetVerdict s ≡ accepted
     unfolding sheetSays sheetVerdict
-    judged = leads-passed sheetRows [] tt z ∙ none-left
+    judged = leads-passed rows [] tt z ∙ none-left
 
     named : sheetSays s .named ≡ length (nameIn s)
     unfolding sheetSays
@@ -72,7 +72,7 @@ module _ (s : List ℕ) where
     -- the name is what the sheet ends with
     name-ends : Ends s (nameIn s)
     unfolding sheetSays sheetVerdict hasBadEntry nameIn entriesOf
-    name-ends = let row = passed sheetRows tt z in all-end s 5 (sheet-whole s (row 13)) (not-false _ (row 14))
+    name-ends = let row = passed rows tt z in all-end s 5 (sheet-whole s (row 13)) (not-false _ (row 14))
 
     pub named-in : sheetSays s .named ≤ length s
     named-in = omega (arith, named, simp length-drop at (ap length name-ends))
@@ -89,15 +89,15 @@ module _ (s : List ℕ) where
 
     pub sheet-refused : (sheetSays s .code ≡ 0 → ⊥) → (settingsAnswer s name ≡ sheetSays s) × (settingsName s name ≡ name)
     unfolding sheetSays sheetVerdict settingsAnswer settingsName settingsVerdict
-    sheet-refused n = rw (leads-refused sheetRows (room ∷ []) tt n, ne-eqb (verdict sheetRows .code) 0 n) (refl, refl)
+    sheet-refused n = rw (leads-refused rows (room ∷ []) tt n, ne-eqb (verdict rows .code) 0 n) (refl, refl)
 
     module _ (z : sheetSays s .code ≡ 0) where
       pub room-refused : (length name ≡ nameLength → ⊥) → (settingsAnswer s name ≡ refusal 3) × (settingsName s name ≡ name)
       unfolding sheetSays sheetVerdict settingsAnswer settingsName settingsVerdict
       room-refused n =
-          rw (leads-passed sheetRows (room ∷ []) tt z, row-holds room [] (ap not (ne-eqb (length name) nameLength n))) (refl, refl)
+          rw (leads-passed rows (room ∷ []) tt z, row-holds room [] (ap not (ne-eqb (length name) nameLength n))) (refl, refl)
 
       pub served : length name ≡ nameLength → (settingsAnswer s name ≡ sheetSays s) × (settingsName s name ≡ nameBytes s)
       unfolding sheetSays sheetVerdict settingsAnswer settingsName settingsVerdict
       served e =
-          rw (leads-passed sheetRows (room ∷ []) tt z, row-passed room [] (ap not (eq-eqb (length name) nameLength e)), none-left, judged z) (refl, refl)
+          rw (leads-passed rows (room ∷ []) tt z, row-passed room [] (ap not (eq-eqb (length name) nameLength e)), none-left, judged z) (refl, refl)

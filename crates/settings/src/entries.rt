@@ -4,6 +4,7 @@ use crate::frame::byte_at;
 use crate::refused;
 use surface::DEFAULT_RULE;
 use surface::HIGHEST_RULE;
+use surface::LOWEST_RULE;
 use surface::NAME_LENGTH;
 use surface::Sheet;
 use words::wide;
@@ -13,9 +14,6 @@ ghost use lib.ListN.{length, drop};
 ghost use Rattle.surface.specs.Lists.{all};
 ghost use Rattle.surface.specs.Settings.{isPrintable, areEntries};
 ghost use Rattle.settings.specs.Walk.{headerSize, entriesFrom, Whole, saidIn, saidWith};
-
-// The rule by which cells are cut through their lowest posts.
-const LOWEST_RULE: u32 = 1;
 
 // The kinds of entries.
 const RULE: u8 = 1;

@@ -76,7 +76,7 @@ fn clear_from(list: &mut [u8], n: usize)
     }
 }
 
-// How many of these bytes a name may have.
+// How many of these bytes the list takes. A name never has more, which `put_name` need not be told so.
 fn at_most(bytes: usize) -> usize
     ensures { λ r. ⌜ r ≡ min bytes nameLength ⌝ }
 {

@@ -106,7 +106,7 @@ pub record Promised (pl : Plot) (calls : List Reshoot) (left : Marked) : Type 0 
   pub holds : Surveyed (over pl (left .heights)) (left .marks)
 
 -- Take any accepted survey and any series of re-shoots after it, accepted and turned away in any order, the accepted ones with the survey's rows and
--- columns.
+-- columns and with sheets that mean its rule.
 abbrev pub Demand3 : Type 0
 Demand3 =
     (pl : Plot) (marks : List ℕ) (calls : List Reshoot)

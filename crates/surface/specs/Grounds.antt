@@ -18,7 +18,7 @@ codesIn bytes = filter (λ c. ltb 0 c) bytes
 
 -- of a post, in the outcome of the call: its answer's k and mark, and the eight bytes that it left
 pub record Grounds (pl : Plot) (post k mark : ℕ) (bytes : List ℕ) : Type 0 where
-  -- the mark is the one that a survey of the same heights writes at that post, whatever marks are lent to it
+  -- the mark is the one that a survey of the same heights by the same rule writes at that post, whatever marks are lent to it
   pub surveyed : (marks : List ℕ) → length marks ≡ posts pl
       → (surveyAnswer pl marks .code ≡ 0) × (post < length (surveyMarks pl marks)) × (getD (surveyMarks pl marks) post 0 ≡ mark)
   -- each code says how its member stands to the post, in the ring's order; the codes number the ring's members, and are at the front, with zeros

@@ -29,8 +29,8 @@ isHeight z = not (ltZ z (negsuc 999999)) && not (ltZ (pos 1000000) z)
 abbrev pub defaultRule : ℕ
 defaultRule = 1
 
--- a plot as it is lent: its rows, its columns, the heights of its posts, and what its settings sheet says ("Settings sheet"): whether it, or an entry
--- of it, is bad, for which calls are refused, and whether cells are cut through their highest posts
+-- a plot as it is lent: its rows, its columns, the heights of its posts, and what its settings sheet says ("Settings sheet"): that the sheet is bad,
+-- that an entry of it is, for either of which a call is refused, and whether cells are cut through their highest posts
 pub record Plot : Type 0 where
   pub rows : ℕ
   pub columns : ℕ
@@ -107,7 +107,7 @@ pub record Sides (rows columns : ℕ) : Type 0 where
   pub narrow : columns ≤ maxSide
   pub few : rows * columns ≤ maxPosts
 
--- a plot as every call takes it
+-- sides and heights as every call takes them
 pub record Valid (pl : Plot) : Type 0 where
   pub sides : Sides pl.rows pl.columns
   pub size : length pl.heights ≡ posts pl

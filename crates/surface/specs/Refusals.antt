@@ -100,11 +100,15 @@ row13 badSheet = rowOf 13 badSheet
 abbrev pub row14 : Bool → Row
 row14 badEntry = rowOf 14 badEntry
 
+-- the rows of a settings sheet, which go before all others
+abbrev pub sheetRows : Bool → Bool → List Row
+sheetRows badSheet badEntry = row13 badSheet ∷ row14 badEntry ∷ []
+
 -- What each call is turned away for.
 module _ (pl : Plot) where
   -- the rows that lead every call with a settings sheet
   abbrev pub leading : List Row
-  leading = row13 pl.badSheet ∷ row14 pl.badEntry ∷ row1 pl.rows pl.columns ∷ row2 pl ∷ []
+  leading = sheetRows pl.badSheet pl.badEntry ++ row1 pl.rows pl.columns ∷ row2 pl ∷ []
 
   unfoldable pub surveyVerdict : List ℕ → Answer
   surveyVerdict marks = verdict (leading ++ row3 marks (posts pl) ∷ row4 isHeight pl.heights ∷ [])
@@ -140,10 +144,10 @@ module _ (pl : Plot) where
 
 -- of a settings sheet alone, and with a list that receives the name
 unfoldable pub sheetVerdict : List ℕ → Answer
-sheetVerdict sheet = verdict (row13 (isBadSheet sheet) ∷ row14 (hasBadEntry sheet) ∷ [])
+sheetVerdict sheet = verdict (sheetRows (isBadSheet sheet) (hasBadEntry sheet))
 
 unfoldable pub settingsVerdict : List ℕ → List ℕ → Answer
-settingsVerdict sheet name = verdict (row13 (isBadSheet sheet) ∷ row14 (hasBadEntry sheet) ∷ row3 name nameLength ∷ [])
+settingsVerdict sheet name = verdict (sheetRows (isBadSheet sheet) (hasBadEntry sheet) ++ row3 name nameLength ∷ [])
 
 -- of reading a file into a list that receives the heights
 unfoldable pub readVerdict : List ℕ → List ℤ → Answer

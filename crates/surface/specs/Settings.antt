@@ -20,7 +20,7 @@ pub record Entry : Type 0 where
   pub size : ℕ
   pub value : List ℕ
 
--- the entries that bytes are, by their lengths, at most n: each takes two bytes or more, so as many as there are bytes are all. (A kind with no byte after
+-- the entries that bytes are, by their lengths, at most n: each takes a byte or more, so as many as there are bytes are all. (A kind with no byte after
 -- it has length 0.)
 unfoldable pub entriesIn : ℕ → List ℕ → List Entry
 entriesIn zero bytes = []
@@ -61,7 +61,7 @@ abbrev pub isName : List ℕ → Bool
 isName value = leb 1 (length value) && (leb (length value) nameLength && all isPrintable value)
 
 abbrev pub isEntry : Entry → Bool
-isEntry e = eqb (e .kind) 1 && isRule (e .value) || eqb (e .kind) 2 && isName (e .value)
+isEntry e = (eqb (e .kind) 1 && isRule (e .value)) || (eqb (e .kind) 2 && isName (e .value))
 
 -- each of a known kind, above that of the one before, and in its range
 unfoldable pub areEntries : ℕ → List Entry → Bool

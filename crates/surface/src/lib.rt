@@ -25,7 +25,9 @@ pub const RING_LENGTH: usize = 8;
 
 pub const NAME_LENGTH: usize = 32;
 
-// The rule by which cells are cut through their highest posts, and the one where nothing is said.
+// The rules by which cells are cut, through their lowest posts and through their highest, and the one where nothing is said.
+pub const LOWEST_RULE: u32 = 1;
+
 pub const HIGHEST_RULE: u32 = 2;
 
 pub const DEFAULT_RULE: u32 = 1;

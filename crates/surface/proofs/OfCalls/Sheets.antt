@@ -7,9 +7,9 @@ use lib.Dec.{eqb}
 use lib.IntN.{ℤ}
 use lib.ListN.{length, getD}
 use Rattle.surface.specs.Lists.{all}
-use Rattle.surface.specs.Plot.{Plot, ruled, over}
+use Rattle.surface.specs.Plot.{Plot, defaultRule, ruled, over}
 use Rattle.surface.specs.Settings.{Entry, entriesIn, entriesOf, extent, isBadSheet, areEntries, hasBadEntry, valueOf, ruleIn, nameIn}
-use Rattle.surface.specs.Refusals.{verdict, row13, row14, sheetVerdict, reshootVerdict}
+use Rattle.surface.specs.Refusals.{verdict, sheetRows, sheetVerdict, reshootVerdict}
 use Rattle.surface.specs.Calls.{sheetSays, plotBy, surveyAnswer, reshootAnswer}
 use Rattle.surface.specs.Series.{Reshoot, asked, Marked, afterCall, Kept}
 use Rattle.surface.specs.Sheets.{Passes, Sheets, KeptBy, Demand3BySheets}
@@ -42,8 +42,8 @@ sheets =
     record {
       oneRule = one;
       none = (refl, λ rows columns heights. refl);
-      unnamed = λ sheet e h. one sheet [] e refl (ap (λ (v : List ℕ). getD v 0 1) (value-none 1 (entriesOf sheet) h));
-      default = λ sheet e h. one sheet [] e refl (ap (λ (v : List ℕ). getD v 0 1) h);
+      unnamed = λ sheet e h. one sheet [] e refl (ap (λ (v : List ℕ). getD v 0 defaultRule) (value-none 1 (entriesOf sheet) h));
+      default = λ sheet e h. one sheet [] e refl (ap (λ (v : List ℕ). getD v 0 defaultRule) h);
     }
   where
     one : (sheet other : List ℕ) → Passes sheet → Passes other → ruleIn sheet ≡ ruleIn other
@@ -56,7 +56,7 @@ plot-sheet : (sheet : List ℕ) (rows columns : ℕ) (heights : List ℤ) → Sh
 unfolding sheetSays sheetVerdict verdict
 plot-sheet sheet rows columns heights s = go (isBadSheet sheet) (hasBadEntry sheet) (s .0) (s .1)
   where
-    go : (a b : Bool) → let code = verdict (row13 a ∷ row14 b ∷ []) .code in eqb code 13 ≡ false → eqb code 14 ≡ false → code ≡ 0
+    go : (a b : Bool) → let code = verdict (sheetRows a b) .code in eqb code 13 ≡ false → eqb code 14 ≡ false → code ≡ 0
     go true b h k = absurd (true≢false h)
     go false true h k = absurd (true≢false k)
     go false false h k = refl

@@ -1,4 +1,4 @@
--- The height order of a plot, the diagonals through its lowest posts and the step to the lowest neighbour make a network. This is the one place where
+-- The height order of a plot, the diagonals by its rule and the step to the lowest neighbour make a network. This is the one place where
 -- these three meet the laws over any order, diagonals and picks.
 use Prim.Native.Nat.{ℕ, _+_, _<_}
 use mathlib.Core.Path.{_≡_, sym, _∙_}
