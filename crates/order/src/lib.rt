@@ -3,16 +3,19 @@
 use surface::Grid;
 use surface::VIRTUAL_PIT;
 ghost use mathlib.Core.Path.{_≡_};
-ghost use mathlib.Core.Bool.{true};
+ghost use mathlib.Core.Bool.{true, false};
 ghost use Prim.Native.Nat.{_+_, _-_, _<_, _≤_};
 ghost use lib.IntN.{pos};
 ghost use lib.Signed.{ltZ};
 ghost use lib.ListN.{length, getD};
-ghost use Rattle.surface.specs.Lists.{stores};
+ghost use Rattle.surface.specs.Lists.{listOf, stores};
 ghost use Rattle.surface.specs.Plot.{plotOf, posts, maxSide, maxPosts, Vertex, below, tied, Valid, PostOf};
 ghost use Rattle.surface.specs.Edges.{lowerOf};
 ghost use Rattle.surface.specs.Lines.{toward};
 ghost use Rattle.order.specs.Ties.{Near, tiePlace};
+
+// How many posts are compared at once.
+const BLOCK: usize = 16;
 
 // The height of p is less than that of q.
 fn is_less(heights: &[i32], p: usize, q: usize) -> bool
@@ -88,8 +91,35 @@ pub fn lower_of(heights: &[i32], grid: Grid, up: bool, p: usize, q: usize) -> us
     p
 }
 
-// Flags `at` and on, n of them: whether the posts from q on are below those from p on, which have lower numbers.
-pub fn later_row(
+// A block of flags: whether the posts from q on are below those from p on, which have lower numbers. It is an array of its own: so the compiler knows
+// that no store changes a height, and compares them all at once.
+fn later_block(heights: &[i32], grid: Grid, p: usize, q: usize) -> [bool; BLOCK]
+    requires { ⌜ Valid (plotOf grid (now heights)) × (p < q) × (q + 16 ≤ posts (plotOf grid (now heights))) ⌝ }
+    ensures { λ r. ⌜ r ≡ listOf (λ k. below (plotOf grid (now (heights .entry))) (q + k) (p + k)) 16 ⌝ }
+{
+    let mut block = [false; BLOCK];
+    let mut k = 0;
+    while k < BLOCK {
+        block[k] = later_is_below(heights, grid, p + k, q + k);
+        k += 1;
+    }
+    block
+}
+
+// Stores a block in the flags `at` and on.
+fn put_block(block: [bool; BLOCK], flags: &mut [bool], at: usize)
+    requires { ⌜ at + 16 ≤ length (now flags) ⌝ }
+    ensures { λ _. ⌜ now (flags .exit) ≡ stores (λ k. getD block (k - at) false) at 16 (now (flags .entry)) ⌝ }
+{
+    let mut k = 0;
+    while k < BLOCK {
+        flags[at + k] = block[k];
+        k += 1;
+    }
+}
+
+// `later_row` flag by flag, for rows shorter than a block.
+fn later_each(
     heights: &[i32],
     grid: Grid,
     p: usize,
@@ -106,6 +136,37 @@ pub fn later_row(
         flags[at + i] = later_is_below(heights, grid, p + i, q + i);
         i += 1;
     }
+}
+
+// Flags `at` and on, n of them: whether the posts from q on are below those from p on, which have lower numbers.
+pub fn later_row(
+    heights: &[i32],
+    grid: Grid,
+    p: usize,
+    q: usize,
+    flags: &mut [bool],
+    at: usize,
+    n: usize,
+)
+    requires { ⌜ Valid (plotOf grid (now heights)) × (p < q) × (q + n ≤ posts (plotOf grid (now heights))) × (at + n ≤ length (now flags)) ⌝ }
+    ensures { λ _. ⌜ now (flags .exit) ≡ stores (λ k. below (plotOf grid (now (heights .entry))) (q + (k - at)) (p + (k - at))) at n (now (flags .entry)) ⌝ }
+{
+    if n < BLOCK {
+        later_each(heights, grid, p, q, flags, at, n);
+        return;
+    }
+    let mut i = 0;
+    while i + BLOCK < n {
+        put_block(later_block(heights, grid, p + i, q + i), flags, at + i);
+        i += BLOCK;
+    }
+    // the last block ends where the row does, and may store some flags again
+    let last = n - BLOCK;
+    put_block(
+        later_block(heights, grid, p + last, q + last),
+        flags,
+        at + last,
+    );
 }
 
 // Flags 1 and on of the row that starts at `base`: whether a post is below the one before it in the row. (Only within a row does the order of level

@@ -3,4 +3,5 @@ pub mod border;
 mod cell;
 mod corner;
 pub mod mark;
+pub mod pattern;
 pub mod ring;

@@ -11,7 +11,8 @@ pub mod CellFlags
 pub mod Runs
 pub mod RunMembers
 pub mod Signs
-pub mod MarkFlags
+pub mod Patterns
+pub mod PatternFlags
 pub mod Turns
 pub mod Census
 pub mod Balance

@@ -3,5 +3,6 @@ pub mod Bools
 pub mod Rounding
 pub mod Sum
 pub mod ListOf
+pub mod Tables
 pub mod FirstNot
 pub mod Stores

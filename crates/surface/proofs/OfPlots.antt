@@ -1,5 +1,6 @@
 -- The height order, diagonals and picks of a plot are such as the laws over any order ask for.
 pub mod HeightOrder
 pub mod Instance
+pub mod Patterns
 pub mod Redrawn
 pub mod Codes

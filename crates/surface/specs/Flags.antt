@@ -1,19 +1,68 @@
--- Between the definitions and the code: the mark of a post by which of the eight posts round it are below it, joined to it or not, and the lower runs
--- that a mark tells of. (The calls' promises do not speak of these.) Beyond a border is the virtual pit, which is below. By rule 2 all flags are flipped:
--- they tell of the posts above, and the runs that start are upper ones, as many.
-use Prim.Native.Nat.{ℕ, _+_, _-_}
+-- Between the definitions and the code: a post's pattern by which of the eight posts round it are below it, joined to it or not, and which of the corners
+-- are below the side after them; its mark by the runs that start, and the lower runs that a mark tells of. (The calls' promises do not speak of these.)
+-- Beyond a border is the virtual pit, which is below every post and not below itself.
+use Prim.Native.Nat.{ℕ, _+_, _-_, _*_}
 use mathlib.Core.Bool.{Bool, cond, not, _&&_, _||_}
 use lib.Dec.{ltb, eqb}
 use Rattle.surface.specs.Lists.{one}
+use Rattle.surface.specs.Plot.{Plot, below}
+use Rattle.surface.specs.Edges.{top, bottom, left, right}
 
 -- a flag, or its contrary
 abbrev pub flipped : Bool → Bool → Bool
 flipped h x = cond h (not x) x
 
--- how many lower runs start: one on the way from a side by the corner to the next side, where the first is not below and the corner or the next is
-unfoldable pub runsBy : (n ne e se s sw w nw : Bool) → ℕ
-runsBy n ne e se s sw w nw =
-    one (not n && (e || ne)) + one (not e && (s || se)) + one (not s && (w || sw)) + one (not w && (n || nw))
+-- the sign at a corner, joined to the post or not, by that of the side before it, by whether the corner is below the post, and by whether it is below
+-- the side after it: by rule 1, or by rule 2
+unfoldable pub signBy : Bool → Bool → Bool → Bool → Bool
+signBy highest side corner after = cond highest (side && (corner || after)) (side || (corner && after))
+
+-- a side and the corner after it, as two digits
+unfoldable pub pairBy : Bool → Bool → Bool → Bool → ℕ
+pairBy highest side corner after = one side + 2 * one (signBy highest side corner after)
+
+-- the digits of E, SE, S and SW, by a pair for E and one for S; and those of N, NE, W and NW
+abbrev pub lowerBy : ℕ → ℕ → ℕ
+lowerBy east south = 4 * (east + 4 * south)
+
+abbrev pub upperBy : ℕ → ℕ → ℕ
+upperBy north west = north + 64 * west
+
+module _ (pl : Plot) (p : ℕ) where
+  abbrev c : ℕ
+  c = pl.columns
+
+  abbrev t : Bool
+  t = top c p
+
+  abbrev b : Bool
+  b = bottom pl.rows c p
+
+  abbrev l : Bool
+  l = left c p
+
+  abbrev r : Bool
+  r = right c p
+
+  -- q is below q′
+  abbrev low : ℕ → ℕ → Bool
+  low = below pl
+
+  unfoldable pub eastPair : ℕ
+  eastPair = pairBy pl.highest (r || low (p + 1) p) (r || (b || low (p + c + 1) p)) (not b && (r || low (p + c + 1) (p + c)))
+
+  unfoldable pub southPair : ℕ
+  southPair = pairBy pl.highest (b || low (p + c) p) (b || (l || low (p + c - 1) p)) (not l && (b || low (p + c - 1) (p - 1)))
+
+  unfoldable pub northPair : ℕ
+  northPair = pairBy pl.highest (t || low (p - c) p) (t || (r || low (p - c + 1) p)) (not r && (t || low (p - c + 1) (p + 1)))
+
+  -- the first post of all has no member at W, which carries the sign of S
+  unfoldable pub westSign : Bool
+  westSign = cond (t && l) (b || low (p + c) p) (l || low (p - 1) p)
+
+  unfoldable pub westPair : ℕ
+  westPair = pairBy pl.highest westSign (l || (t || low (p - c - 1) p)) (not t && (l || low (p - c - 1) (p - c)))
 
 -- the mark by whether the ring's first member is below and the number of lower runs that start: where none does, all members are of one sort
 unfoldable pub markBy : Bool → ℕ → ℕ

@@ -29,6 +29,7 @@ pub mod Plot
 pub mod Edges
 pub mod Marks
 pub mod Flags
+pub mod Patterns
 pub mod Codes
 pub mod Lines
 pub mod Rounding

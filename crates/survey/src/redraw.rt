@@ -1,5 +1,6 @@
 // The marks round a post, after its height changed: those of the post and of the posts that touch it by side or corner.
-use post::mark::mark_at;
+use post::mark::mark_with;
+use post::pattern::change_table;
 use surface::Grid;
 ghost use mathlib.Core.Path.{_≡_};
 ghost use Prim.Native.Nat.{_+_, _-_, _<_, _≤_, min};
@@ -13,9 +14,10 @@ fn mark_each(heights: &[i32], grid: Grid, from: usize, n: usize, marks: &mut [u8
     requires { ⌜ Valid (plotOf grid (now heights)) × (length (now marks) ≡ posts (plotOf grid (now heights))) × (from + n ≤ posts (plotOf grid (now heights))) ⌝ }
     ensures { λ _. ⌜ now (marks .exit) ≡ stores (markAt (plotOf grid (now (heights .entry)))) from n (now (marks .entry)) ⌝ }
 {
+    let table = change_table();
     let mut i = 0;
     while i < n {
-        marks[from + i] = mark_at(heights, grid, from + i);
+        marks[from + i] = mark_with(heights, grid, &table, from + i);
         i += 1;
     }
 }

@@ -1,13 +1,29 @@
--- The loop's invariant: i flags were stored.
-use Prim.Native.Nat.{_+_, _-_, _≤_}
+-- The loop's invariant: i flags were stored. The last block goes over their end.
+use Prim.Native.Nat.{ℕ, _+_, _-_, _≤_}
 use native.Mathlib.Omega.{arith}
+use native.Mathlib.Nat.{add-assoc}
 use mathlib.Core.Path.{_≡_, refl, _∙_}
-use lib.ListN.{length, length-set}
-use Rattle.surface.specs.Lists.{stores}
-use Rattle.surface.specs.Plot.{plotOf, below}
-use Rattle.surface.proofs.General.Stores.{store-next}
+use mathlib.Core.Bool.{Bool, false}
+use mathlib.Core.List.{List}
+use lib.ListN.{length, getD}
+use borrow.Author.Needs.{needs}
+use Rattle.surface.specs.Lists.{listOf, stores}
+use Rattle.surface.specs.Plot.{Plot, plotOf, below}
+use Rattle.surface.proofs.General.ListOf.{getD-listOf}
+use Rattle.surface.proofs.General.Stores.{stores-join, stores-over, stores-same}
 use Rattle.order.proofs.later_row.Statement.{statement}
 use Rattle.order.proofs.later_row.Tie as tie
+
+-- a block stored is a part of the row
+part : (pl : Plot) (p q at i : ℕ) (block l l₁ : List Bool) → block ≡ listOf (λ k. below pl (q + i + k) (p + i + k)) 16
+    → l₁ ≡ stores (λ k. getD block (k - (at + i)) false) (at + i) 16 l → l₁ ≡ stores (λ k. below pl (q + (k - at)) (p + (k - at))) (at + i) 16 l
+part pl p q at i block l l₁ e s =
+    s
+    ∙ stores-same _ _ (at + i) 16 l
+    (λ k h.
+    let e₁ : at + i + k - (at + i) ≡ k = omega arith in
+    let e₂ : at + i + k - at ≡ i + k = omega arith in
+    rw (e₁, e₂, e, getD-listOf _ 16 k false h, add-assoc q i k, add-assoc p i k))
 
 abbrev Inv-loop : tie.InvT-loop
 Inv-loop heights grid p q flags₀ at n i₀ flags i =
@@ -16,37 +32,36 @@ Inv-loop heights grid p q flags₀ at n i₀ flags i =
 abbrev μ-loop : tie.MeasureT-loop
 μ-loop heights grid p q flags₀ at n i₀ flags i = n - i
 
+later-each-requires : tie.Need-later-each-requires Inv-loop μ-loop
+later-each-requires c κs = c .before .before .before .pre
+
+returns : tie.Need-returns Inv-loop μ-loop
+returns c = c .before .before .later-each .ensures
+
 loop-holds : tie.Need-loop-holds Inv-loop μ-loop
 unfolding stores
 loop-holds c = (omega arith, refl, refl)
 
-add-later-is-below : tie.Need-add-later-is-below Inv-loop μ-loop
-add-later-is-below c = omega (arith, c .before .before .before .pre .0 .sides)
-
-add-later-is-below-2 : tie.Need-add-later-is-below-2 Inv-loop μ-loop
-add-later-is-below-2 c = omega (arith, c .before .before .before .pre .0 .sides)
-
-later-is-below-requires : tie.Need-later-is-below-requires Inv-loop μ-loop
-later-is-below-requires c κs = (record { valid = c .before .before .before .pre .0; post = omega arith }, omega arith)
+later-block-requires : tie.Need-later-block-requires Inv-loop μ-loop
+later-block-requires c κs = (c .before .before .before .before .pre .0, omega arith, omega arith)
 
 loop-again : tie.Need-loop-again Inv-loop μ-loop
 loop-again c =
-    let l = c .before .before .loop in
-    let a = c .before .before .before .before .args in
-    let e : a .at + l .i - a .at ≡ l .i = omega arith in (
-      omega arith,
-      length-set (l .flags) _ _ ∙ l .inv .1,
-      store-next _ (a .at) (l .i) (l .i + 1) (l .flags) (a .flags .now) (a .at + l .i) _ (l .inv .2) refl refl (rw e (c .later-is-below .ensures)),
-    )
+    let l = c .before .before .before .before .before .before .loop in
+    let a = c .before .before .before .before .before .before .before .before .before .args in
+    let new = part _ (a .p) (a .q) (a .at) (l .i) _ _ _ (c .before .before .before .before .later-block .ensures) (c .before .before .put-block .ensures) in
+    (omega arith, search needs, stores-join _ (a .at) (l .i) (a .at + l .i) 16 (l .i + 16) (a .flags .now) (l .flags) _ (l .inv .2) new refl refl)
 
-same-length : tie.Need-same-length Inv-loop μ-loop
-same-length c = c .before .loop .inv .1
+later-block-requires-2 : tie.Need-later-block-requires-2 Inv-loop μ-loop
+later-block-requires-2 c κs = (c .before .before .before .before .pre .0, omega arith, omega arith)
 
-returns : tie.Need-returns Inv-loop μ-loop
-returns c =
-    let l = c .before .loop in
-    let e : l .i ≡ c .before .before .before .args .n = omega arith in
-    rw e at (l .inv .2)
+returns-2 : tie.Need-returns-2 Inv-loop μ-loop
+returns-2 c =
+    let l = c .before .before .before .before .before .before .loop in
+    let a = c .before .before .before .before .before .before .before .before .before .args in
+    let last = a .n - 16 in
+    let new = part _ (a .p) (a .q) (a .at) last _ _ _ (c .before .before .before .before .later-block2 .ensures) (c .before .before .put-block2 .ensures) in
+    stores-over _ (a .at) (l .i) (a .at + last) 16 (a .n) (a .flags .now) (l .flags) _ false (l .inv .2) new (omega arith) (omega arith) (omega arith) (omega arith) (omega arith)
 
 pub later-row-spec : {M : Type 1} → statement M
-later-row-spec = tie.close (tie.spec Inv-loop μ-loop loop-holds add-later-is-below add-later-is-below-2 later-is-below-requires (λ c. omega arith) (λ c. omega arith) (λ c. omega arith) (λ c. omega arith) loop-again same-length returns)
+later-row-spec = tie.close (tie.spec Inv-loop μ-loop later-each-requires (search needs) returns loop-holds (λ c. omega arith) (λ c. omega arith) (λ c. omega arith) later-block-requires (λ c. omega arith) (λ c κs. omega arith) (λ c. omega arith) (λ c. omega arith) loop-again (λ c. omega arith) (λ c. omega arith) later-block-requires-2 (λ c. omega arith) (λ c κs. omega arith) (search needs) returns-2)

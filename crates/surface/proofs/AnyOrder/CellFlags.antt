@@ -5,7 +5,8 @@ use Prim.Native.Nat.{ℕ, _+_, _≤_, _<_}
 use native.Mathlib.Omega.{arith}
 use mathlib.Core.Path.{_≡_, refl, sym, _∙_, ap}
 use mathlib.Core.Bool.{Bool, true, false, cond, not, _&&_, _||_, true≢false, or-true, and-false}
-use mathlib.Core.List.{[], _∷_}
+use mathlib.Core.Logic.{⊎-elim}
+use mathlib.Core.List.{[], _∷_, List·Memᴰ, List·Memᴰ·head, List·Memᴰ·tail, List·Memᴰ·cases-cons, List·Memᴰ·not-nil}
 use lib.Dec.{eqb}
 use borrow.Author.Tests.{eq-eqb, ne-eqb}
 use Rattle.surface.specs.Plot.{directed}
@@ -13,41 +14,34 @@ use Rattle.surface.specs.Edges.{throughLowest, lowest, lowestOr}
 use Rattle.surface.specs.Flags.{flipped}
 use Rattle.surface.proofs.General.Bools.{either}
 use Rattle.surface.proofs.AnyOrder.Order.{StrictTotal, directed-strict, directed-flipped}
+use Rattle.surface.proofs.AnyOrder.Lowest.{lowest-member, lowest-least}
 
 -- the diagonal of a cell falls, by its flags: of the north-western post to the east, south and south-east, of the north-eastern one to the south, and
 -- of the south-western one to the east
 abbrev pub fallsBy : (e s se s′ e′ : Bool) → Bool
 fallsBy e s se s′ e′ = not e && not s && not se || se && s′ && e′
 
--- what is known of the post across a cell from p: x and y, one after the other clockwise, tell whether the sides of the cell beside p are below it,
--- `across` whether the post across is, and `joined` whether the diagonal joins p to it
-pub record Corner (x y across joined : Bool) : Type 0 where
-  -- where both sides are below p, so is the post across if it is joined
-  pub both : x ≡ true → y ≡ true → joined ≡ true → across ≡ true
-  -- where neither is, the post across is joined if it is below
-  pub none : x ≡ false → y ≡ false → across ≡ true → joined ≡ true
+-- What is known of the post across a cell from p, of which `low` tells whether it is below p, and `after` whether it is below the side after it: x, the
+-- side before it, tells whether that is below p, `joined` whether the diagonal joins p to the post across. Which of the four is the lowest settles it.
+pub record Corner (x low after joined : Bool) : Type 0 where
+  pub told : cond joined low x ≡ x || (low && after)
 
-fall-across : (s se s′ e′ : Bool) → fallsBy true s se s′ e′ ≡ true → se ≡ true
-fall-across s true s′ e′ h = refl
-fall-across s false s′ e′ h = h
+by-self : {x low after joined : Bool} → joined ≡ true → low ≡ false → x ≡ false → Corner x low after joined
+by-self j l x = record { told = rw (j, l, x) }
 
-fall-back : (e s se : Bool) → fallsBy e s se false false ≡ true → se ≡ false
-fall-back e s false h = refl
-fall-back true s true h = sym h
-fall-back false true true h = sym h
-fall-back false false true h = sym h
+by-across : {x low after joined : Bool} → joined ≡ true → low ≡ true → after ≡ true → Corner x low after joined
+by-across {x} j l a = record { told = rw (j, l, a) (sym (or-true x)) }
 
-rise-ne : (s se e′ : Bool) → fallsBy true s se false e′ ≡ false
-rise-ne s true e′ = refl
-rise-ne s false e′ = refl
+by-before : {x low after joined : Bool} → joined ≡ false → x ≡ true → Corner x low after joined
+by-before j x = record { told = rw (j, x) }
 
-rise-sw : (e se s′ : Bool) → fallsBy e true se s′ false ≡ false
-rise-sw true true true = refl
-rise-sw true true false = refl
-rise-sw true false s′ = refl
-rise-sw false true true = refl
-rise-sw false true false = refl
-rise-sw false false s′ = refl
+by-after : {x low after joined : Bool} → joined ≡ false → after ≡ false → Corner x low after joined
+by-after {x} {low} j a = record { told = rw (j, a) (sym (go x low)) }
+  where
+    go : (x low : Bool) → x || (low && false) ≡ x
+    go true low = refl
+    go false true = refl
+    go false false = refl
 
 -- the four posts of a cell, in the order of their numbers
 module _ (lower : ℕ → ℕ → Bool) (o : StrictTotal lower) (a b c d : ℕ) (a<b : a < b) (b<c : b < c) (c<d : c < d) where
@@ -118,59 +112,81 @@ module _ (lower : ℕ → ℕ → Bool) (o : StrictTotal lower) (a b c d : ℕ) 
   falls = fallsBy (lower b a) (lower c a) (lower d a) (lower d b) (lower d c)
 
   -- the four corners as each post of the cell sees the one across
-  pub from-nw : Corner (lower b a) (lower c a) (lower d a) falls
-  from-nw =
-      record {
-        both = λ x y j. fall-across (lower c a) (lower d a) (lower d b) (lower d c) (rw x at j);
-        none =
-            λ x y z.
-            let db = o .trans d a b z (above a b (λ e. omega arith) x) in
-            let dc = o .trans d a c z (above a c (λ e. omega arith) y) in
-            rw (x, y, z, db, dc);
-      }
+  pub record Corners : Type 0 where
+    pub nw : Corner (lower b a) (lower d a) (lower d c) falls
+    pub ne : Corner (lower d b) (lower c b) (lower c a) (not falls)
+    pub se : Corner (lower c d) (lower a d) (lower a b) falls
+    pub sw : Corner (lower a c) (lower b c) (lower b d) (not falls)
 
-  pub from-se : Corner (lower c d) (lower b d) (lower a d) falls
-  from-se =
-      record {
-        both = λ x y j. above a d (λ e. omega arith) (fall-back (lower b a) (lower c a) (lower d a) (rw (below b d (λ e. omega arith) y, below c d (λ e. omega arith) x) at j));
-        none =
-            λ x y z.
-            let db = above d b (λ e. omega arith) y in
-            let dc = above d c (λ e. omega arith) x in
-            let ba = below a b (λ e. omega arith) (o .trans a d b z db) in
-            let ca = below a c (λ e. omega arith) (o .trans a d c z dc) in
-            rw (ba, ca, below a d (λ e. omega arith) z);
-      }
+  -- m is the lowest
+  Least : ℕ → Type 0
+  Least m = (falls ≡ outer m) × (lower a m ≡ false) × (lower b m ≡ false) × (lower c m ≡ false) × (lower d m ≡ false)
 
-  pub from-ne : Corner (lower d b) (lower a b) (lower c b) (not falls)
-  from-ne =
-      record {
-        both =
-            λ db ab j.
-            either (lower c b) (λ cb. cb)
-            (λ cb.
-            let bc = above b c (λ e. omega arith) cb in
-            let ba = below a b (λ e. omega arith) ab in
-            let ca = below a c (λ e. omega arith) (o .trans a b c ab bc) in
-            let dc = o .trans d b c db bc in
-            absurd (true≢false (sym j ∙ either (lower d a) (λ da. rw (ba, ca, da, db, dc)) (λ da. rw (ba, ca, da)))));
-        none = λ db ab cb. rw (above b a (λ e. omega arith) ab, db) (ap not (rise-ne (lower c a) (lower d a) (lower d c)));
-      }
+  corners-at : (m : ℕ) → List·Memᴰ m (a ∷ b ∷ c ∷ d ∷ []) → Least m → Corners
+  unfolding Least
+  corners-at m i least =
+      ⊎-elim (λ (e : m ≡ a). at-a (rw e at least))
+      (λ i.
+      ⊎-elim (λ (e : m ≡ b). at-b′ (rw e at least))
+      (λ i.
+      ⊎-elim (λ (e : m ≡ c). at-c′ (rw e at least))
+      (λ i. ⊎-elim (λ (e : m ≡ d). at-d (rw e at least)) (λ i. absurd (List·Memᴰ·not-nil i)) (List·Memᴰ·cases-cons i))
+      (List·Memᴰ·cases-cons i))
+      (List·Memᴰ·cases-cons i))
+      (List·Memᴰ·cases-cons i)
+    where
+      at-a : Least a → Corners
+      at-a (f, _, ba, ca, da) =
+          let j = f ∙ at-outer false in
+          record {
+            nw = by-self j da ba;
+            ne = by-after (ap not j) ca;
+            se = by-across j (above a d (λ e. omega arith) da) (above a b (λ e. omega arith) ba);
+            sw = by-before (ap not j) (above a c (λ e. omega arith) ca);
+          }
 
-  pub from-sw : Corner (lower a c) (lower d c) (lower b c) (not falls)
-  from-sw =
-      record {
-        both =
-            λ ac dc j.
-            either (lower b c) (λ bc. bc)
-            (λ bc.
-            let cb = above c b (λ e. omega arith) bc in
-            let ca = below a c (λ e. omega arith) ac in
-            let ba = below a b (λ e. omega arith) (o .trans a c b ac cb) in
-            let db = o .trans d c b dc cb in
-            absurd (true≢false (sym j ∙ either (lower d a) (λ da. rw (ba, ca, da, db, dc)) (λ da. rw (ba, ca, da)))));
-        none = λ ac dc bc. rw (above c a (λ e. omega arith) ac, dc) (ap not (rise-sw (lower b a) (lower d a) (lower d b)));
-      }
+      at-b′ : Least b → Corners
+      at-b′ (f, ab, _, cb, db) =
+          let j = f ∙ at-b false in
+          record {
+            nw = by-before j (above b a (λ e. omega arith) ab);
+            ne = by-self (ap not j) cb db;
+            se = by-after j ab;
+            sw = by-across (ap not j) (above b c (λ e. omega arith) cb) (above b d (λ e. omega arith) db);
+          }
+
+      at-c′ : Least c → Corners
+      at-c′ (f, ac, bc, _, dc) =
+          let j = f ∙ at-c false in
+          record {
+            nw = by-after j dc;
+            ne = by-across (ap not j) (above c b (λ e. omega arith) bc) (above c a (λ e. omega arith) ac);
+            se = by-before j (above c d (λ e. omega arith) dc);
+            sw = by-self (ap not j) bc ac;
+          }
+
+      at-d : Least d → Corners
+      at-d (f, ad, bd, cd, _) =
+          let j = f ∙ at-outer true in
+          record {
+            nw = by-across j (above d a (λ e. omega arith) ad) (above d c (λ e. omega arith) cd);
+            ne = by-before (ap not j) (above d b (λ e. omega arith) bd);
+            se = by-self j ad cd;
+            sw = by-after (ap not j) bd;
+          }
+
+  pub corners : Corners
+  unfolding Least
+  corners =
+      let l = a ∷ b ∷ c ∷ d ∷ [] in
+      let least = lowest-least lower o l in
+      corners-at (lowest lower l) (lowest-member lower a l (List·Memᴰ·head refl)) (
+        sym outer-by,
+        least a (List·Memᴰ·head refl),
+        least b (List·Memᴰ·tail (List·Memᴰ·head refl)),
+        least c (List·Memᴰ·tail (List·Memᴰ·tail (List·Memᴰ·head refl))),
+        least d (List·Memᴰ·tail (List·Memᴰ·tail (List·Memᴰ·tail (List·Memᴰ·head refl)))),
+      )
 
   pub falls-is : (columns : ℕ) → b ≡ a + 1 → c ≡ a + columns → d ≡ a + columns + 1 → throughLowest lower columns a ≡ falls
   unfolding throughLowest outer

@@ -13,6 +13,7 @@ use Rattle.surface.specs.Lists.{keep, any, all, lastOr, one}
 use Rattle.surface.specs.Edges.{runs, runsFrom}
 use Rattle.surface.specs.Marks.{markFor}
 use Rattle.surface.specs.Flags.{markBy, runsFor}
+use Rattle.surface.specs.Patterns.{changes, changesFrom}
 use Rattle.surface.proofs.General.Bools.{and-left, or-left, either}
 
 -- how many runs start in a list, `before` being the side of what stands before it
@@ -24,15 +25,6 @@ starts s before (x ∷ l) = one (s x && not before) + starts s (s x) l
 unfoldable pub lastSide : (ℕ → Bool) → Bool → List ℕ → Bool
 lastSide s before [] = before
 lastSide s before (x ∷ l) = lastSide s (s x) l
-
--- changes of side along a list, and round a circle
-unfoldable pub changesFrom : (ℕ → Bool) → Bool → List ℕ → ℕ
-changesFrom s before [] = 0
-changesFrom s before (x ∷ l) = one (s x && not before) + one (before && not (s x)) + changesFrom s (s x) l
-
-unfoldable pub changes : (ℕ → Bool) → List ℕ → ℕ
-changes s [] = 0
-changes s (x ∷ l) = changesFrom s (s (lastOr x l)) (x ∷ l)
 
 markBy-zero : (a : Bool) (k : ℕ) → k ≡ 0 → markBy a k ≡ cond a 1 2
 unfolding markBy
@@ -184,10 +176,14 @@ module _ (s : ℕ → Bool) where
       let e = rw h at (starts-stops (s (lastOr x l)) (x ∷ l)) in
       omega arith
 
+  pub changes-starts : (x : ℕ) (l : List ℕ) → changes s (x ∷ l) ≡ 2 * starts s (s (lastOr x l)) (x ∷ l)
+  unfolding changes circle
+  changes-starts x l = rw (changesFrom-starts, ← (circle-stops x l)) (omega arith)
+
   -- a circle of both sorts: as many upper runs as lower ones, and twice as many changes of side
   pub changes-runs : (x : ℕ) (l : List ℕ) → all s (x ∷ l) ≡ false → changes s (x ∷ l) ≡ 2 * length (runs s (x ∷ l))
-  unfolding changes circle
-  changes-runs x l h = rw (length-runs x l h, changesFrom-starts, ← (circle-stops x l)) (omega arith)
+  unfolding circle
+  changes-runs x l h = rw (length-runs x l h) (changes-starts x l)
 
   pub all-not : (l : List ℕ) → all (λ q. not (s q)) l ≡ not (any s l)
   unfolding all any

@@ -12,6 +12,7 @@ use Rattle.surface.specs.Plot.{virtualPit}
 use Rattle.surface.specs.Edges.{Place, members, places, ring, runs, top, bottom, left, right}
 use Rattle.surface.specs.Marks.{mark, markFor}
 use Rattle.surface.specs.Flags.{markBy}
+use Rattle.surface.specs.Patterns.{carried}
 use Rattle.surface.proofs.General.Bools.{either}
 use Rattle.surface.proofs.AnyOrder.Order.{StrictTotal}
 use Rattle.surface.proofs.AnyOrder.Runs.{starts, lastSide, markFor-circle, lastSide-lastOr}
@@ -25,13 +26,6 @@ pub record Signs : Type 0 where
   pub sw : Bool
   pub w : Bool
   pub nw : Bool
-
--- the signs of a list of places, x being the sign before it; `low` tells of a vertex whether it is below the post
-unfoldable pub carried : (ℕ → Bool) → Bool → List Place → List Bool
-carried low x [] = []
-carried low x (y ∷ l) =
-    let g = cond (y .taken) (low (y .member)) x in
-    g ∷ carried low g l
 
 -- the signs of p
 unfoldable pub signs : ℕ → ℕ → (ℕ → Bool) → (ℕ → Bool) → ℕ → Signs
@@ -117,7 +111,7 @@ module _ (low : ℕ → Bool) where
       go false true q h = omega arith
       go false false q h = omega arith
 
-  lastSide-members : (x : Bool) (l : List Place) → lastSide low x (members l) ≡ lastOr x (carried low x l)
+  pub lastSide-members : (x : Bool) (l : List Place) → lastSide low x (members l) ≡ lastOr x (carried low x l)
   unfolding lastSide members carried lastOr
   lastSide-members x [] = refl
   lastSide-members x (y ∷ l) = go (y .taken) x (y .member) (lastSide-members (cond (y .taken) (low (y .member)) x) l)

@@ -7,7 +7,7 @@ use native.Mathlib.Decide.{ℕ-discrete}
 use mathlib.Core.Path.{_≡_, refl, sym, _∙_}
 use mathlib.Core.List.{List}
 use lib.ListN.{length, getD, set, length-set}
-use lib.Seq.{getD-set-same, getD-set-other, ext-getD}
+use lib.Seq.{getD-set-same, getD-set-other, set-getD, ext-getD}
 use Rattle.surface.specs.Lists.{listOf, stores}
 use Rattle.surface.proofs.General.ListOf.{length-listOf, getD-listOf}
 
@@ -46,6 +46,23 @@ module _ {A : Type 0} (f : ℕ → A) where
       go (yes e) ih = rw e (getD-set-same (stores f from n l) (from + n) (f (from + n)) d (omega (arith, length-stores from n l)))
       go (no e) ih = getD-set-other (stores f from n l) (from + n) i (f (from + n)) d e ∙ ih (omega arith) a (omega arith)
 
+  -- a store of what is there changes nothing
+  stores-again : (from n : ℕ) (l : List A) (d : A) → ((i : ℕ) → from ≤ i → i < from + n → getD l i d ≡ f i) → stores f from n l ≡ l
+  unfolding stores
+  stores-again from zero l d h = refl
+  stores-again from (suc n) l d h =
+      rw (stores-again from n l d (λ i a b. h i a (omega arith)), ← h (from + n) (omega arith) (omega arith)) (set-getD l (from + n) d)
+
+  -- one row of stores over the end of another
+  pub stores-over : (a n b m k : ℕ) (l l₁ l₂ : List A) (d : A) → l₁ ≡ stores f a n l → l₂ ≡ stores f b m l₁ → a ≤ b → b ≤ a + n → a + n ≤ b + m → a + k ≡ b + m
+      → a + n ≤ length l → l₂ ≡ stores f a k l
+  stores-over a n b m k l l₁ l₂ d e₁ e₂ p q r s h =
+      let old = a + n - b in
+      let new = b + m - (a + n) in
+      let e : stores f b old l₁ ≡ l₁ = stores-again b old l₁ d (λ i x y. rw e₁ (stores-in a n l i d h (omega arith) (omega arith))) in
+      let joined : stores f (a + n) new l₁ ≡ stores f b m l₁ = stores-join b old (a + n) new m l₁ l₁ _ (sym e) refl (omega arith) (omega arith) in
+      stores-join a n (a + n) new k l l₁ l₂ e₁ (e₂ ∙ sym joined) refl (omega arith)
+
   pub stores-out : (from n : ℕ) (l : List A) (i : ℕ) (d : A) → (from ≤ i → i < from + n → ⊥) → getD (stores f from n l) i d ≡ getD l i d
   unfolding stores
   stores-out from zero l i d h = refl
@@ -60,6 +77,12 @@ module _ {A : Type 0} (f : ℕ → A) where
       (λ i k.
       let m : i < n = omega (arith, length-stores 0 n l) in
       stores-in 0 n l i d (omega arith) (omega arith) (omega arith) ∙ sym (getD-listOf f n i d m))
+
+-- the same stores
+pub stores-same : {A : Type 0} (f g : ℕ → A) (from n : ℕ) (l : List A) → ((i : ℕ) → i < n → f (from + i) ≡ g (from + i)) → stores f from n l ≡ stores g from n l
+unfolding stores
+stores-same f g from zero l h = refl
+stores-same f g from (suc n) l h = rw (stores-same f g from n l (λ i k. h i (omega arith)), h n (omega arith))
 
 -- what a list tells of every place passed, it tells of one more after a store
 pub told-more : {A : Type 0} (l : List A) (i : ℕ) (x d : A) (f : ℕ → A) → i < length l → ((k : ℕ) → k < i → getD l k d ≡ f k) → x ≡ f i

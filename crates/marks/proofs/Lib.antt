@@ -1,2 +1,0 @@
--- What rows of flags tell of the posts.
-pub mod Told
