@@ -8,16 +8,16 @@ ghost use lib.ListN.{length};
 ghost use Rattle.surface.specs.Lists.{stores};
 ghost use Rattle.surface.specs.Plot.{plotOf, posts, Valid, PostOf};
 ghost use Rattle.surface.specs.Marks.{markAt, redrawn};
+ghost use Rattle.surface.specs.Patterns.{changeTable};
 
 // The marks of n posts from post `from` on, each worked out by itself.
-fn mark_each(heights: &[i32], grid: Grid, from: usize, n: usize, marks: &mut [u8])
-    requires { ⌜ Valid (plotOf grid (now heights)) × (length (now marks) ≡ posts (plotOf grid (now heights))) × (from + n ≤ posts (plotOf grid (now heights))) ⌝ }
+fn mark_each(heights: &[i32], grid: Grid, table: &[u8], from: usize, n: usize, marks: &mut [u8])
+    requires { ⌜ Valid (plotOf grid (now heights)) × (now table ≡ changeTable) × (length (now marks) ≡ posts (plotOf grid (now heights))) × (from + n ≤ posts (plotOf grid (now heights))) ⌝ }
     ensures { λ _. ⌜ now (marks .exit) ≡ stores (markAt (plotOf grid (now (heights .entry)))) from n (now (marks .entry)) ⌝ }
 {
-    let table = change_table();
     let mut i = 0;
     while i < n {
-        marks[from + i] = mark_with(heights, grid, &table, from + i);
+        marks[from + i] = mark_with(heights, grid, table, from + i);
         i += 1;
     }
 }
@@ -48,6 +48,7 @@ pub(crate) fn redraw(heights: &[i32], grid: Grid, post: usize, marks: &mut [u8])
     requires { ⌜ PostOf (plotOf grid (now heights)) post × (length (now marks) ≡ posts (plotOf grid (now heights))) ⌝ }
     ensures { λ _. ⌜ now (marks .exit) ≡ redrawn (plotOf grid (now (heights .entry))) (now (marks .entry)) post ⌝ }
 {
+    let table = change_table();
     let row = post / grid.columns;
     let column = post % grid.columns;
     let from = before(column);
@@ -55,7 +56,7 @@ pub(crate) fn redraw(heights: &[i32], grid: Grid, post: usize, marks: &mut [u8])
     let end = end_after(row, grid.rows);
     let mut r = before(row);
     while r < end {
-        mark_each(heights, grid, r * grid.columns + from, width, marks);
+        mark_each(heights, grid, &table, r * grid.columns + from, width, marks);
         r += 1;
     }
 }
