@@ -4,6 +4,7 @@ mod bench_plots;
 mod bounds;
 mod files;
 pub mod lister;
+mod patterns;
 mod refusals;
 mod series;
 mod sheets;
@@ -34,6 +35,7 @@ pub fn all(t: &mut Tester, chance: &mut Chance, long: bool) {
     series::never_surveyed(t, chance, 2000 * times);
     whole_plots::small_random(t, chance, 4000 * times);
     series::series(t, chance, times);
+    patterns::patterns(t, chance);
     whole_plots::exhaustive(t, chance, long);
     whole_plots::upside_down(t, chance, 1000 * times);
     whole_plots::every_post(t, chance, long);

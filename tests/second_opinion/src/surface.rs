@@ -113,16 +113,27 @@ impl Plot<'_> {
         }
     }
 
+    /// What stands at each place of the ring.
+    fn places(&self, post: usize) -> [Option<usize>; 8] {
+        let pit = self.pit_place(post);
+        std::array::from_fn(|place| match pit {
+            Some(at) if at == place => Some(VIRTUAL_PIT),
+            _ => self.neighbour(post, place),
+        })
+    }
+
     pub fn ring(&self, post: usize) -> Vec<usize> {
-        let mut ring = Vec::new();
-        for place in 0..8 {
-            if self.pit_place(post) == Some(place) {
-                ring.push(VIRTUAL_PIT);
-            } else if let Some(other) = self.neighbour(post, place) {
-                ring.push(other);
-            }
-        }
-        ring
+        self.places(post).into_iter().flatten().collect()
+    }
+
+    /// For each place of the ring, is the member there below the post? An absent one carries
+    /// the sign of the last member before it; N is never absent.
+    pub fn signs(&self, post: usize) -> [bool; 8] {
+        let mut last = None;
+        self.places(post).map(|place| {
+            last = place.map(|member| self.below(member, post)).or(last);
+            last.expect("a member at N")
+        })
     }
 
     /// How a member of the ring stands to the post: 1 above by height, 2 above by tie,
@@ -208,6 +219,19 @@ impl Plot<'_> {
             p
         };
         (0..self.posts()).map(end_of).collect()
+    }
+}
+
+/// Lower runs and mark by the changes of side round eight signs: the index is one less half
+/// of them, 1 at a peak or pit, 0 at an ordinary post, and at a saddle less than that by its
+/// multiplicity.
+pub fn by_changes(signs: [bool; 8]) -> (u32, u8) {
+    let changes = (0..8).filter(|&i| signs[i] != signs[(i + 1) % 8]).count();
+    match 1 - changes as i32 / 2 {
+        1 if signs[0] => (1, 1),
+        1 => (0, 2),
+        0 => (1, 0),
+        index => (1 + index.unsigned_abs(), 2 + index.unsigned_abs() as u8),
     }
 }
 

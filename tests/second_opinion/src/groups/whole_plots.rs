@@ -4,7 +4,7 @@ use super::{good, WAYS};
 use crate::call::{Call, Kind};
 use crate::opinion::in_one_piece;
 use crate::plots::{any_plot, ground, Chance, GROUNDS};
-use crate::surface::{Plot, Rule, Way, RULES, VIRTUAL_PIT};
+use crate::surface::{by_changes, Plot, Rule, Way, RULES, VIRTUAL_PIT};
 use crate::tester::{law, Outcome, Tester};
 
 /// Everything about one plot. Of a plot with more than `most` posts only so
@@ -29,12 +29,14 @@ pub fn whole_plot(t: &Tester, plot: &Plot, most: usize, chance: &mut Chance) -> 
     Ok(())
 }
 
-/// The marks of a survey, in balance.
+/// The marks of a survey, in balance, and as the changes of side round the rings say.
 fn survey(t: &Tester, plot: &Plot, chance: &mut Chance) -> Result<Vec<u8>, String> {
     let call = good(Kind::Survey, plot, chance);
     let (answer, left) = t.agree(&call)?;
     law(answer[0] == 0, "a survey is accepted", &call)?;
     law(answer[2] + answer[3] == answer[4] + 2, "peaks + pits - saddles = 2", &call)?;
+    let told = (0..plot.posts()).map(|post| by_changes(plot.signs(post)).1);
+    law(told.eq(left.marks.iter().copied()), "marks by the changes of side", &call)?;
     Ok(left.marks)
 }
 
