@@ -1,9 +1,10 @@
 -- Compared where it is there; at the first post S is.
 use native.Mathlib.Omega.{arith}
-use mathlib.Core.Path.{refl, _∙_}
+use mathlib.Core.Path.{_≡_, refl}
+use mathlib.Core.Bool.{true, _&&_}
 use borrow.Author.Needs.{needs}
 use borrow.Author.Tests.{not-true}
-use Rattle.surface.specs.Edges.{bottom, left}
+use Rattle.surface.specs.Edges.{top, bottom, left}
 use Rattle.surface.specs.Flags.{westSign}
 use Rattle.surface.proofs.AnyOrder.Grid.{bottom-false, not-left}
 use Rattle.post.proofs.Paired.{same, side-or}
@@ -23,7 +24,7 @@ returns : tie.Need-returns
 unfolding westSign
 returns c =
     let z = c .before .before .before .before .before in
-    let k = rw (z .pre .1) at (c .before .before .before .if1 .taken) in
+    let k : top (z .args .grid .columns) (z .args .p) && left (z .args .grid .columns) (z .args .p) ≡ true = rw (z .pre .1) at (c .before .before .before .if1 .taken) in
     rw (c .ahead .ensures, z .pre .1, k) (side-or (bottom (z .args .grid .rows) (z .args .grid .columns) (z .args .p)) _ _ (λ i. same _ refl (omega arith)))
 
 back-requires : tie.Need-back-requires
