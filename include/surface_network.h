@@ -57,7 +57,7 @@ extern "C" {
 /* Version of the library. The build takes it from these three lines. */
 #define SN_VERSION_MAJOR 2
 #define SN_VERSION_MINOR 0
-#define SN_VERSION_PATCH 0
+#define SN_VERSION_PATCH 1
 #define SN_VERSION \
     SN_TEXT(SN_VERSION_MAJOR) "." SN_TEXT(SN_VERSION_MINOR) "." SN_TEXT(SN_VERSION_PATCH)
 

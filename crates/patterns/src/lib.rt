@@ -73,7 +73,7 @@ fn south_rows(
     fill_row(under, 1, columns, false);
 }
 
-// The patterns of the first posts of a row: to the upper halves, worked out with the row above, the lower ones by the flags round the row.
+// The patterns of the first posts of a row: the upper halves, worked out with the row above, and to them the pairs of E and of S by the flags.
 fn lower_row(
     upper: &[u8],
     side: &[bool],
@@ -90,15 +90,15 @@ fn lower_row(
 {
     let mut c = 0;
     while c < width {
-        let east = pair(side[c + 1], fall[c + 1], under[c + 1], highest);
-        let west = pair(south[c + 1], rise[c], south[c], highest);
-        pattern[c] = upper[c] + 4 * (east + 4 * west);
+        let e = pair(side[c + 1], fall[c + 1], under[c + 1], highest);
+        let s = pair(south[c + 1], rise[c], south[c], highest);
+        pattern[c] = upper[c] + 4 * (e + 4 * s);
         c += 1;
     }
 }
 
-// The upper halves of the patterns of the row below, of which the flags tell turned round. Of all flags turned the pairs are those by the other rule,
-// turned: so none has to be turned by itself.
+// The upper halves of the patterns of the row below, the pairs of N and of W, of which the flags tell turned round. A pair of turned flags is the turned
+// pair by the other rule: so no flag has to be turned by itself.
 fn upper_row(
     side: &[bool],
     south: &[bool],
@@ -114,9 +114,9 @@ fn upper_row(
 {
     let mut c = 0;
     while c < width {
-        let north = pair(south[c + 1], rise[c + 1], south[c + 2], !highest);
-        let west = pair(under[c], fall[c], side[c], !highest);
-        upper[c] = UPPER - (north + 64 * west);
+        let n = pair(south[c + 1], rise[c + 1], south[c + 2], !highest);
+        let w = pair(under[c], fall[c], side[c], !highest);
+        upper[c] = UPPER - (n + 64 * w);
         c += 1;
     }
 }
