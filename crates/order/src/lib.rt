@@ -118,6 +118,14 @@ fn put_block(block: [bool; BLOCK], flags: &mut [bool], at: usize)
     }
 }
 
+// `later_row` for a block. (Both calls of this one the compiler makes fast; of two functions called twice it does so once.)
+fn later_flags(heights: &[i32], grid: Grid, p: usize, q: usize, flags: &mut [bool], at: usize)
+    requires { ⌜ Valid (plotOf grid (now heights)) × (p < q) × (q + 16 ≤ posts (plotOf grid (now heights))) × (at + 16 ≤ length (now flags)) ⌝ }
+    ensures { λ _. ⌜ now (flags .exit) ≡ stores (λ k. below (plotOf grid (now (heights .entry))) (q + (k - at)) (p + (k - at))) at 16 (now (flags .entry)) ⌝ }
+{
+    put_block(later_block(heights, grid, p, q), flags, at);
+}
+
 // `later_row` flag by flag, for rows shorter than a block.
 fn later_each(
     heights: &[i32],
@@ -157,16 +165,12 @@ pub fn later_row(
     }
     let mut i = 0;
     while i + BLOCK < n {
-        put_block(later_block(heights, grid, p + i, q + i), flags, at + i);
+        later_flags(heights, grid, p + i, q + i, flags, at + i);
         i += BLOCK;
     }
     // the last block ends where the row does, and may store some flags again
     let last = n - BLOCK;
-    put_block(
-        later_block(heights, grid, p + last, q + last),
-        flags,
-        at + last,
-    );
+    later_flags(heights, grid, p + last, q + last, flags, at + last);
 }
 
 // Flags 1 and on of the row that starts at `base`: whether a post is below the one before it in the row. (Only within a row does the order of level
