@@ -1,5 +1,5 @@
 -- What rows of flags tell of the posts of a row: the lower halves of their patterns.
-use Prim.Native.Nat.{ℕ, zero, suc, _%_, _+_, _-_, _*_, _≤_, _<_}
+use Prim.Native.Nat.{ℕ, _%_, _+_, _-_, _*_, _≤_, _<_}
 use native.Mathlib.Omega.{arith}
 use native.Mathlib.Nat.{mul-le-mul-right, add-mul, one-mul}
 use mathlib.Core.Path.{_≡_, refl, sym, _∙_, ap, ap₂}
@@ -8,16 +8,13 @@ use mathlib.Core.List.{List}
 use native.Mathlib.Decide.{ℕ-discrete}
 use borrow.Author.Tests.{ltb-true, ltb-false}
 use lib.Dec.{ltb}
-use lib.ListN.{length, getD}
-use Rattle.surface.specs.Lists.{stores}
+use lib.ListN.{getD}
 use Rattle.surface.specs.Plot.{Plot, posts, below, Sides, Valid}
-use Rattle.surface.specs.Edges.{top, bottom, left, right}
+use Rattle.surface.specs.Edges.{bottom, left, right}
 use Rattle.surface.specs.Flags.{lowerBy, eastPair, southPair}
 use Rattle.surface.proofs.General.Bools.{either}
-use Rattle.surface.proofs.General.Stores.{stores-in, stores-out}
-use Rattle.surface.proofs.AnyOrder.Grid.{row-lt, row-is, column-is, top-false, top-true, bottom-false, bottom-true, left-true, left-false, right-true, right-false}
-use Rattle.surface.proofs.OfPlots.HeightOrder.{below-strict}
-use Rattle.patterns.specs.Rows.{lowerIn, RowOf, Side, Ends, South}
+use Rattle.surface.proofs.AnyOrder.Grid.{row-lt, row-is, column-is, bottom-false, bottom-true, left-true, left-false, right-true, right-false}
+use Rattle.patterns.specs.Rows.{lowerIn, RowOf, Side, South}
 
 pub row-of : (rows columns r : ℕ) → r < rows → RowOf rows columns (r * columns)
 row-of rows columns r h =

@@ -1,5 +1,5 @@
 -- The flags and the upper halves at the top row, as they are stored.
-use Prim.Native.Nat.{ℕ, _+_, _-_, _*_, _≤_, _<_}
+use Prim.Native.Nat.{ℕ, _+_, _-_, _≤_, _<_}
 use native.Mathlib.Omega.{arith}
 use native.Mathlib.Nat.{zero-mul}
 use mathlib.Core.Path.{_≡_, sym, _∙_, ap}
@@ -11,7 +11,7 @@ use Rattle.surface.specs.Lists.{stores}
 use Rattle.surface.specs.Plot.{Plot, below, Valid}
 use Rattle.surface.proofs.General.Stores.{length-stores, stores-in}
 use Rattle.surface.proofs.AnyOrder.Grid.{row-fits}
-use Rattle.patterns.specs.Rows.{upperIn, RowOf, Side, Ends, Head, Blank, Wide}
+use Rattle.patterns.specs.Rows.{upperIn, Head, Blank, Wide}
 use Rattle.patterns.proofs.Halves.{halves-low}
 use Rattle.patterns.proofs.Stored.{first, last, inner, same}
 use Rattle.patterns.proofs.Turned.{First, upper-first}

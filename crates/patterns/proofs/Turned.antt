@@ -1,5 +1,5 @@
 -- What the flags of a row tell, turned round, of the row below: the upper halves of its patterns.
-use Prim.Native.Nat.{ℕ, _+_, _-_, _*_, _≤_, _<_}
+use Prim.Native.Nat.{ℕ, _+_, _-_, _<_}
 use native.Mathlib.Omega.{arith}
 use native.Mathlib.Nat.{add-mul, one-mul}
 use mathlib.Core.Path.{_≡_, refl, sym, _∙_, ap}
@@ -7,8 +7,8 @@ use mathlib.Core.Bool.{Bool, true, false, cond, not, _&&_, _||_, or-true}
 use mathlib.Core.List.{List}
 use lib.ListN.{getD}
 use Rattle.surface.specs.Plot.{Plot, posts, below, Valid}
-use Rattle.surface.specs.Edges.{top, bottom, left, right}
-use Rattle.surface.specs.Flags.{pairBy, upperBy, northPair, westSign, westPair}
+use Rattle.surface.specs.Edges.{bottom, left, right}
+use Rattle.surface.specs.Flags.{upperBy, northPair, westSign, westPair}
 use Rattle.surface.proofs.AnyOrder.Grid.{top-false, top-true, left-false, row-fits}
 use Rattle.surface.proofs.OfPlots.HeightOrder.{below-strict}
 use Rattle.patterns.specs.Rows.{upperIn, RowOf, Side, South}

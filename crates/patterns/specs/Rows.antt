@@ -61,7 +61,8 @@ pub record South (pl : Plot) (base : ℕ) (south fall rise under : List Bool) : 
   pub riseFirst : getD rise 0 false ≡ true
   pub riseLast : getD rise pl.columns false ≡ false
 
--- where the patterns stand at the head of the row that starts at `base`: the upper halves of its patterns are known, and the flags along it
+-- where the patterns stand at the head of the row that starts at `base`: the upper halves of its patterns are known, and the flags along it. (`low` is
+-- of the places past the row's end too: with a lower half each stays a byte.)
 pub record Head (pl : Plot) (base width : ℕ) (side south fall rise under : List Bool) (upper : List ℕ) : Type 0 where
   pub above : (c : ℕ) → c < pl.columns → getD upper c 0 ≡ upperBy (northPair pl (base + c)) (westPair pl (base + c))
   pub low : (c : ℕ) → c < width → getD upper c 0 ≤ 195

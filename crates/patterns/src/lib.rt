@@ -1,11 +1,10 @@
-// The patterns of a whole plot, a row at a time, every two posts that touch compared once.
+// The patterns of a whole plot, a row at a time, by rows of comparisons of the posts that touch.
 use order::east_row;
 use order::later_is_below;
 use order::later_row;
 use post::pattern::pair;
 use surface::Grid;
 ghost use mathlib.Core.Path.{_≡_};
-ghost use mathlib.Core.Bool.{true, false, not};
 ghost use Prim.Native.Nat.{_+_, _-_, _≤_, _<_};
 ghost use lib.ListN.{length, getD};
 ghost use Rattle.surface.specs.Lists.{listOf, stores};
@@ -147,7 +146,7 @@ fn pattern_row(
 }
 
 // The flags and the upper halves at the top row, above which is the virtual pit; the first post of all has no member at W and carries the sign of S there.
-// The flags come as they are above the plot, and go as they are at the head of a row.
+// The flags come as they are above the plot, and go as they are at the head of a row; those left in `under` are then the row's own.
 fn top_row(
     heights: &[i32],
     grid: Grid,

@@ -10,11 +10,12 @@ ghost use mathlib.Core.Bool.{true, cond};
 ghost use Prim.Native.Nat.{_+_, _-_, _≤_, _<_};
 ghost use Rattle.surface.specs.Lists.{one};
 ghost use Rattle.surface.specs.Plot.{plotOf, posts, below, Valid, PostOf};
-ghost use Rattle.surface.specs.Flags.{signBy, pairBy, lowerBy, upperBy, eastPair, southPair, northPair, westSign, westPair};
+ghost use Rattle.surface.specs.Flags.{signBy, pairBy, eastPair, southPair, northPair, westSign, westPair};
 ghost use Rattle.surface.specs.Patterns.{changeTable, patternAt};
 ghost use Rattle.post.specs.Corners.{bordersOf};
 
-// For each pattern how many changes of side there are round its eight signs, taken as a circle: a digit each, a row for the lower four signs.
+// For each pattern how many changes of side there are round its eight signs, taken as a circle: a digit each, in a row by the signs from S to NW, at a
+// place by those from N to SE.
 const CHANGES: [u8; 256] = *b"\
     0222242224442422\
     2444464424442422\
@@ -61,7 +62,7 @@ pub fn pair(side: bool, corner: bool, after: bool, highest: bool) -> u8
     side as u8 + 2 * sign(side, corner, after, highest)
 }
 
-// The post from + d numbers before p is below the one `from` before it, or it is not there.
+// Of the posts `from` and from + d numbers before p, the earlier is below the later; true where the earlier is not there.
 fn back(heights: &[i32], grid: Grid, p: usize, from: usize, d: usize, there: bool) -> bool
     requires { ⌜ Valid (plotOf grid (now heights)) × (there ≡ true → (p < posts (plotOf grid (now heights))) × (1 ≤ d) × (from + d ≤ p)) ⌝ }
     ensures { λ r. ⌜ r ≡ cond there (below (plotOf grid (now (heights .entry))) (p - from - d) (p - from)) true ⌝ }
@@ -72,7 +73,7 @@ fn back(heights: &[i32], grid: Grid, p: usize, from: usize, d: usize, there: boo
     true
 }
 
-// Post p is below the one d numbers before it, or it is not there.
+// Post p is below the one d numbers before it; true where p is not there.
 fn ahead(heights: &[i32], grid: Grid, p: usize, d: usize, there: bool) -> bool
     requires { ⌜ Valid (plotOf grid (now heights)) × (there ≡ true → (p < posts (plotOf grid (now heights))) × (1 ≤ d) × (d ≤ p)) ⌝ }
     ensures { λ r. ⌜ r ≡ cond there (below (plotOf grid (now (heights .entry))) p (p - d)) true ⌝ }

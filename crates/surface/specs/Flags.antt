@@ -13,7 +13,7 @@ abbrev pub flipped : Bool → Bool → Bool
 flipped h x = cond h (not x) x
 
 -- the sign at a corner, joined to the post or not, by that of the side before it, by whether the corner is below the post, and by whether it is below
--- the side after it: by rule 1, or by rule 2
+-- the side after it: by rule 2, and by rule 1
 unfoldable pub signBy : Bool → Bool → Bool → Bool → Bool
 signBy highest side corner after = cond highest (side && (corner || after)) (side || (corner && after))
 
@@ -28,6 +28,7 @@ lowerBy east south = 4 * (east + 4 * south)
 abbrev pub upperBy : ℕ → ℕ → ℕ
 upperBy north west = north + 64 * west
 
+-- the pairs of a post p, which stands at these borders: t top, b bottom, l left, r right
 module _ (pl : Plot) (p : ℕ) where
   abbrev c : ℕ
   c = pl.columns

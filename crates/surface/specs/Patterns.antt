@@ -31,7 +31,7 @@ carried low x (y ∷ l) =
 unfoldable pub signsAt : Plot → ℕ → List Bool
 signsAt pl p = carried (λ q. below pl q p) true (places pl.rows pl.columns (fallsIn pl) p)
 
--- signs as a number, the first in its lowest digit of two
+-- signs as a number, the first in its lowest binary digit
 unfoldable pub patternOf : List Bool → ℕ
 patternOf [] = 0
 patternOf (x ∷ l) = one x + 2 * patternOf l

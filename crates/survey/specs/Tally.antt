@@ -1,11 +1,10 @@
--- The peaks and the pits of a list of marks.
-use Prim.Native.Nat.{ℕ, _+_, _*_, _≤_}
+-- The three counts of a list of marks.
+use Prim.Native.Nat.{ℕ}
 use mathlib.Core.Path.{_≡_}
 use mathlib.Core.List.{List}
-use lib.ListN.{length}
-use Rattle.surface.specs.Marks.{peaks, pits}
+use Rattle.surface.specs.Marks.{peaks, pits, saddles}
 
-pub record Counted (marks : List ℕ) (p q : ℕ) : Type 0 where
+pub record Counted (marks : List ℕ) (p q s : ℕ) : Type 0 where
   pub peaksAre : p ≡ peaks marks
   pub pitsAre : q ≡ pits marks
-  pub few : p + q ≤ 2 * length marks + 1
+  pub saddlesAre : s ≡ saddles marks

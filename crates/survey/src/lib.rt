@@ -38,14 +38,13 @@ pub fn survey(sheet: &[u8], rows: u32, columns: u32, heights: &[i32], marks: &mu
         highest: said.rule == HIGHEST_RULE,
     };
     mark_plot(heights, grid, marks);
-    // Peaks and pits make two more than saddles on every plot.
     let t = tally::count(marks);
     Counts {
         code: 0,
         place: 0,
         peaks: t.peaks,
         pits: t.pits,
-        saddles: t.peaks + t.pits - 2,
+        saddles: t.saddles,
     }
 }
 

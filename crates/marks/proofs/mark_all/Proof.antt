@@ -1,12 +1,12 @@
 -- The loop's invariant: the first i marks are told, and the patterns after them are as they were.
-use Prim.Native.Nat.{ℕ, _+_, _-_, _≤_, _<_}
+use Prim.Native.Nat.{ℕ, _+_, _-_, _≤_}
 use native.Mathlib.Omega.{arith}
-use mathlib.Core.Path.{_≡_, refl, sym, _∙_, ap}
+use mathlib.Core.Path.{_≡_, refl, _∙_, ap}
 use mathlib.Core.List.{List}
 use lib.ListN.{length, getD}
 use borrow.Author.Needs.{needs}
 use Rattle.surface.specs.Lists.{stores}
-use Rattle.surface.specs.Patterns.{digitOf, changeTable, markIn}
+use Rattle.surface.specs.Patterns.{changeTable, markIn}
 use Rattle.surface.proofs.General.Stores.{stores-in, stores-out, stores-same, stores-join}
 use Rattle.marks.proofs.mark_all.Statement.{statement}
 use Rattle.marks.proofs.mark_all.Tie as tie

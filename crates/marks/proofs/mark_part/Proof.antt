@@ -2,11 +2,10 @@
 use Prim.Native.Nat.{ℕ, _+_, _-_, _≤_}
 use native.Mathlib.Omega.{arith}
 use mathlib.Core.List.{List}
-use mathlib.Core.Path.{_≡_, refl, sym, _∙_, ap}
+use mathlib.Core.Path.{_≡_, refl, _∙_, ap}
 use lib.ListN.{length, getD, length-set}
-use borrow.Author.Needs.{needs}
 use Rattle.surface.specs.Lists.{stores}
-use Rattle.surface.specs.Patterns.{markIn, digitOf}
+use Rattle.surface.specs.Patterns.{markIn}
 use Rattle.surface.proofs.General.Stores.{store-next, stores-out}
 use Rattle.marks.proofs.mark_part.Statement.{statement}
 use Rattle.marks.proofs.mark_part.Tie as tie

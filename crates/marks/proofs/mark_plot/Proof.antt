@@ -7,11 +7,10 @@ use lib.ListN.{length, getD}
 use borrow.Author.Needs.{needs}
 use Rattle.surface.specs.Lists.{listOf, stores}
 use Rattle.surface.specs.Plot.{Plot, posts, Valid}
-use Rattle.surface.specs.Marks.{markAt, marksOf}
+use Rattle.surface.specs.Marks.{marksOf}
 use Rattle.surface.specs.Patterns.{patternAt, markIn}
 use Rattle.surface.proofs.General.ListOf.{getD-listOf, length-listOf, listOf-ext}
 use Rattle.surface.proofs.General.Stores.{stores-all}
-use Rattle.surface.proofs.AnyOrder.Grid.{plot-fits}
 use Rattle.surface.proofs.OfPlots.Patterns.{mark-in, pattern-lt}
 use Rattle.marks.proofs.mark_plot.Statement.{statement}
 use Rattle.marks.proofs.mark_plot.Tie as tie

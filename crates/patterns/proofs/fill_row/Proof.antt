@@ -2,7 +2,6 @@
 use Prim.Native.Nat.{_+_, _-_, _≤_}
 use native.Mathlib.Omega.{arith}
 use mathlib.Core.Path.{_≡_, refl, _∙_}
-use mathlib.Core.Bool.{true}
 use lib.ListN.{length, length-set}
 use Rattle.surface.specs.Lists.{stores}
 use Rattle.surface.proofs.General.Stores.{store-next}

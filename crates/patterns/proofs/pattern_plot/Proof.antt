@@ -1,14 +1,14 @@
 -- The loop's invariant: the patterns of the rows above row r are stored, and the upper halves of its own are known.
-use Prim.Native.Nat.{ℕ, zero, suc, _+_, _-_, _*_, _≤_, _<_}
+use Prim.Native.Nat.{ℕ, zero, suc, _+_, _-_, _*_, _<_}
 use native.Mathlib.Omega.{arith}
 use native.Mathlib.Nat.{add-mul, one-mul, zero-mul, mul-le-mul-right}
-use mathlib.Core.Path.{_≡_, refl, sym, _∙_}
+use mathlib.Core.Path.{_≡_, refl, _∙_}
 use mathlib.Core.Bool.{Bool, true, false}
 use lib.ListN.{getD, replicate}
 use Rattle.surface.specs.Lists.{stores}
-use Rattle.surface.specs.Plot.{plotOf, Valid}
+use Rattle.surface.specs.Plot.{plotOf}
 use Rattle.surface.proofs.General.Stores.{stores-join, stores-all}
-use Rattle.patterns.specs.Rows.{RowOf, Wide, Long, Blank, Head}
+use Rattle.patterns.specs.Rows.{RowOf}
 use Rattle.patterns.proofs.Told.{row-of}
 use Rattle.patterns.proofs.Steps.{State, head-next, row-stored}
 use borrow.Author.Needs.{needs}

@@ -6,7 +6,6 @@ use mathlib.Core.Bool.{Bool, true, false, not}
 use mathlib.Core.List.{List}
 use lib.ListN.{set, length, length-set}
 use Rattle.surface.proofs.AnyOrder.Grid.{row-fits}
-use Rattle.patterns.specs.Rows.{Wide}
 use Rattle.patterns.proofs.Top.{top-told}
 use borrow.Author.Needs.{needs}
 use Rattle.patterns.proofs.top_row.Statement.{statement}

@@ -4,7 +4,7 @@
 use Prim.Native.Nat.{ℕ, _+_, _≤_, _<_}
 use native.Mathlib.Omega.{arith}
 use mathlib.Core.Path.{_≡_, refl, sym, _∙_, ap}
-use mathlib.Core.Bool.{Bool, true, false, cond, not, _&&_, _||_, true≢false, or-true, and-false}
+use mathlib.Core.Bool.{Bool, true, false, cond, not, _&&_, _||_, or-true, and-false}
 use mathlib.Core.Logic.{⊎-elim}
 use mathlib.Core.List.{[], _∷_, List·Memᴰ, List·Memᴰ·head, List·Memᴰ·tail, List·Memᴰ·cases-cons, List·Memᴰ·not-nil}
 use lib.Dec.{eqb}
@@ -67,9 +67,6 @@ module _ (lower : ℕ → ℕ → Bool) (o : StrictTotal lower) (a b c d : ℕ) 
   -- of two that are not the same, one is below the other
   above : (x y : ℕ) → (x ≡ y → ⊥) → lower y x ≡ false → lower x y ≡ true
   above x y h k = o .other y x (λ e. h (sym e)) ∙ ap not k
-
-  below : (x y : ℕ) → (x ≡ y → ⊥) → lower x y ≡ true → lower y x ≡ false
-  below x y h k = o .other x y h ∙ ap not k
 
   outer-by : outer (lowest lower (a ∷ b ∷ c ∷ d ∷ [])) ≡ fallsBy (lower b a) (lower c a) (lower d a) (lower d b) (lower d c)
   unfolding lowest lowestOr

@@ -1,4 +1,4 @@
--- A post's pattern by comparisons of the nine posts round it alone, over any strict total order with the diagonals through the lowest posts, or the
+-- A post's pattern by comparisons alone of it and the eight posts round it, over any strict total order with the diagonals through the lowest posts, or the
 -- highest: the diagonals need not be known. Which of a cell's four posts is the lowest settles what the corner across from the post adds to the sign of
 -- the side before it: through the lowest, a corner that is below both the post and the side after it makes the sign true; through the highest, one that
 -- is above both makes it false.
@@ -15,7 +15,7 @@ use Rattle.surface.proofs.General.Bools.{either}
 use Rattle.surface.proofs.AnyOrder.Order.{StrictTotal, directed-strict, directed-flipped}
 use Rattle.surface.proofs.AnyOrder.Signs.{Signs, signs, signsFrom, signs-from}
 use Rattle.surface.proofs.AnyOrder.Grid.{top-false, not-left, north-left, top-bottom, left-right}
-use Rattle.surface.proofs.AnyOrder.CellFlags.{Corner, Corners, corners, falls-is}
+use Rattle.surface.proofs.AnyOrder.CellFlags.{Corner, corners, falls-is}
 
 -- a corner by its sign
 abbrev Signed : (h x low after joined : Bool) → Type 0

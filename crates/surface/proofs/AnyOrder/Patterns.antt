@@ -1,25 +1,25 @@
 -- A ring's pattern has the ring's changes of side: a place that carries the sign before it adds none. So a pattern tells the mark.
 use Prim.Native.Nat.{ℕ, zero, suc, _+_, _*_, _-_, _/_, _%_}
 use native.Mathlib.Omega.{arith}
-use mathlib.Core.Path.{_≡_, refl, sym, _∙_, ap, ap₂}
+use mathlib.Core.Path.{_≡_, refl, sym, _∙_, ap}
 use mathlib.Core.Bool.{Bool, true, false, cond, not, _&&_}
 use mathlib.Core.List.{List, [], _∷_, _++_, List·Memᴰ}
 use lib.Dec.{eqb}
 use lib.ListN.{length}
-use Rattle.surface.specs.Lists.{keep, any, all, lastOr, one}
+use Rattle.surface.specs.Lists.{keep, one}
 use Rattle.surface.specs.Plot.{virtualPit}
 use Rattle.surface.specs.Edges.{Place, place, members, places, ring, top}
 use Rattle.surface.specs.Marks.{mark}
 use Rattle.surface.specs.Flags.{markBy}
 use Rattle.surface.specs.Patterns.{changes, changesFrom, carried, patternOf, signsOf, changesIn, markIn}
 use Rattle.surface.proofs.AnyOrder.Order.{StrictTotal}
-use Rattle.surface.proofs.AnyOrder.Runs.{starts, lastSide, lastSide-lastOr, changes-starts, markFor-circle}
+use Rattle.surface.proofs.AnyOrder.Runs.{lastSide, lastSide-lastOr, changes-starts, markFor-circle}
 use Rattle.surface.proofs.AnyOrder.Signs.{any-above, lastSide-members}
 
--- the signs of a pattern are those that it was made of
 abbrev id : Bool → Bool
 id x = x
 
+-- the signs of a pattern are those that it was made of
 digit : (x : Bool) (k : ℕ) → (eqb ((one x + 2 * k) % 2) 1 ≡ x) × ((one x + 2 * k) / 2 ≡ k)
 digit true k = let e : (1 + 2 * k) % 2 ≡ 1 = omega arith in (rw e refl, omega arith)
 digit false k = let e : (0 + 2 * k) % 2 ≡ 0 = omega arith in (rw e refl, omega arith)

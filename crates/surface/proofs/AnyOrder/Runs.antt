@@ -1,4 +1,4 @@
--- Round any circle the changes of side are twice the lower runs, and lower runs number the upper runs; so a mark is settled by how many runs start.
+-- Round any circle the side changes twice for each run that starts, and lower runs number the upper runs; so a mark is settled by how many runs start.
 -- `s` tells of each member whether it is below.
 use Prim.Native.Nat.{ℕ, _+_, _*_}
 use native.Mathlib.Omega.{arith}

@@ -2,16 +2,16 @@
 -- at any pattern.
 use Prim.Native.Nat.{ℕ, _+_, _*_, _≤_, _<_}
 use native.Mathlib.Omega.{arith}
-use mathlib.Core.Path.{_≡_, refl, _∙_}
-use mathlib.Core.Bool.{Bool, true, false, not, _&&_}
+use mathlib.Core.Path.{_≡_}
+use mathlib.Core.Bool.{Bool, true, false}
 use mathlib.Core.List.{List, [], _∷_}
 use lib.ListN.{length, getD}
-use Rattle.surface.specs.Lists.{listOf, one}
+use Rattle.surface.specs.Lists.{one}
 use Rattle.surface.specs.Plot.{Plot, below, PostOf}
-use Rattle.surface.specs.Edges.{places, fallsIn, ringOf}
+use Rattle.surface.specs.Edges.{fallsIn, ringOf}
 use Rattle.surface.specs.Marks.{markAt}
 use Rattle.surface.specs.Flags.{signBy, pairBy, lowerBy, upperBy, eastPair, southPair, northPair, westSign, westPair}
-use Rattle.surface.specs.Patterns.{changes, changesFrom, signsAt, patternAt, patternOf, carried, signsOf, changesIn, digitOf, changeTable, markIn}
+use Rattle.surface.specs.Patterns.{changes, changesFrom, signsAt, patternAt, signsOf, changesIn, digitOf, changeTable, markIn}
 use Rattle.surface.proofs.General.ListOf.{getD-listOf}
 use Rattle.surface.proofs.AnyOrder.Grid.{not-pit}
 use Rattle.surface.proofs.AnyOrder.RingEdges.{ring-other}
@@ -34,12 +34,12 @@ pub pairs-le : (pl : Plot) (p : ℕ) → (northPair pl p ≤ 3) × (westPair pl 
 unfolding northPair westPair eastPair southPair
 pairs-le pl p = (pair-le _ _ _ _, pair-le _ _ _ _, pair-le _ _ _ _, pair-le _ _ _ _)
 
-module _ {pl : Plot} {p : ℕ} (post : PostOf pl p) where
-  -- a ring's pattern has the ring's changes of side
-  pub ring-changes : changesIn (patternAt pl p) ≡ changes (λ q. below pl q p) (ringOf pl p)
-  unfolding signsAt ringOf
-  ring-changes = pattern-changes (below pl) (below-strict pl) pl.rows pl.columns (fallsIn pl) p
+-- a ring's pattern has the ring's changes of side
+pub ring-changes : (pl : Plot) (p : ℕ) → changesIn (patternAt pl p) ≡ changes (λ q. below pl q p) (ringOf pl p)
+unfolding signsAt ringOf
+ring-changes pl p = pattern-changes (below pl) (below-strict pl) pl.rows pl.columns (fallsIn pl) p
 
+module _ {pl : Plot} {p : ℕ} (post : PostOf pl p) where
   pub mark-in : markAt pl p ≡ markIn (patternAt pl p)
   unfolding signsAt ringOf markAt
   mark-in =

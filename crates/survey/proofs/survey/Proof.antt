@@ -1,20 +1,16 @@
 -- A refusal is handed on, and what an accepted call was given is a plot.
 use mathlib.Core.Path.{_≡_, sym, _∙_, ap}
 use native.Mathlib.Omega.{arith}
-use Prim.Native.Nat.{ℕ, _+_, _-_}
+use Prim.Native.Nat.{ℕ}
 use mathlib.Core.List.{List}
 use Rattle.surface.specs.Plot.{Plot}
-use Rattle.surface.specs.Marks.{marksOf, peaks, pits, saddles}
 use Rattle.surface.specs.Refusals.{surveyVerdict}
 use Rattle.surface.specs.Calls.{plotSaid}
 use Rattle.surface.specs.declared.Answer.{Answer}
-use Rattle.surface.specs.declared.Counts.{Counts}
-use Rattle.surface.proofs.OfPlots.Instance.{plot-balance}
 use Rattle.surface.proofs.OfCalls.Verdicts.{code}
 use Rattle.surface.proofs.OfCalls.Accepted.{plain, plot-ruled, ForSurvey, survey-valid}
 use Rattle.surface.proofs.OfCalls.MarkCalls.{survey-refused, survey-kept, survey-served, survey-filled}
 use borrow.Author.Needs.{needs}
-use Rattle.survey.specs.Tally.{Counted}
 use Rattle.survey.proofs.survey.Statement.{statement}
 use Rattle.survey.proofs.survey.Tie as tie
 
@@ -56,42 +52,13 @@ mark-plot-requires c κs = let a = accepted (c .before .before) in (a .valid, a 
 count-requires : tie.Need-count-requires
 count-requires c κs = let a = accepted (c .before .before .before .before .before .before) in omega (arith, c .before .before .before .mark-plot .kept .1 .1 .0, a .marksSize, a .valid .sides)
 
--- the marks are the plot's, so that the balance tells its saddles
-abbrev else : tie.After-count → tie.Else1
-else c = c .before .before .before .before .before .before .before
-
-abbrev surveyed : tie.After-count → Plot
-surveyed c = plain (asked (else c .before))
-
-counted : (c : tie.After-count) → Counted (marksOf (surveyed c)) (c .count .result .peaks) (c .count .result .pits)
-counted c = rw (c .before .before .before .before .mark-plot .ensures) at (c .count .ensures)
-
-balance : (c : tie.After-count) → c .count .result .peaks + c .count .result .pits ≡ 2 + saddles (marksOf (surveyed c))
-balance c =
-    let n = counted c in
-    omega (arith, n .peaksAre, n .pitsAre, plot-balance (surveyed c) (accepted (else c) .valid .sides))
-
--- the answer by the marks
-abbrev answer : List ℕ → Counts
-answer m = record { code = 0; place = 0; peaks = peaks m; pits = pits m; saddles = saddles m }
-
-counts : (p q : ℕ) (m : List ℕ) → p ≡ peaks m → q ≡ pits m → p + q - 2 ≡ saddles m
-    → _≡_ {A = Counts} (record { code = 0; place = 0; peaks = p; pits = q; saddles = p + q - 2 }) (answer m)
-counts p q m i j k = rw (k, i, j)
-
-add-saddles : tie.Need-add-t21
-add-saddles c =
-    let a = accepted (else (c .before)) in
-    omega (arith, c .before .count .ensures .few, c .before .before .before .before .before .mark-plot .kept .1 .1 .0, a .marksSize, a .valid .sides)
-
 returns-2 : tie.Need-returns-2
 returns-2 c =
-    let at = else (c .before) in
+    let at = c .before .before .before .before .before .before .before in
     let p = served at in
-    let n = counted (c .before) in
-    let e : c .before .count .result .peaks + c .before .count .result .pits - 2 ≡ saddles (marksOf (surveyed (c .before))) = omega (arith, balance (c .before)) in
-    rw (← (at .before .before .before .read-sheet .ensures), same at)
-    (counts _ _ _ (n .peaksAre) (n .pitsAre) e ∙ ap answer (sym (survey-filled _ _ p)) ∙ sym (survey-served _ _ p), c .before .before .before .before .before .mark-plot .ensures ∙ sym (survey-filled _ _ p))
+    let w = c .before .before .before .before .mark-plot .ensures ∙ sym (survey-filled _ _ p) in
+    let n = rw w at (c .count .ensures) in
+    rw (← (at .before .before .before .read-sheet .ensures), same at) (rw (n .peaksAre, n .pitsAre, n .saddlesAre) (sym (survey-served _ _ p)), w)
 
 pub survey-spec : {M : Type 1} → statement M
-survey-spec = tie.close (tie.spec (search needs) (search needs) (search needs) returns mark-plot-requires count-requires add-saddles (λ c. omega (arith, balance (c .before))) (search needs) returns-2)
+survey-spec = tie.close (tie.spec (search needs) (search needs) (search needs) returns mark-plot-requires count-requires (search needs) returns-2)

@@ -3,7 +3,7 @@ use Prim.Native.Nat.{ℕ, _+_, _-_, _/_}
 use native.Mathlib.Omega.{arith}
 use mathlib.Core.Path.{_≡_, _∙_, ap}
 use Rattle.surface.specs.Flags.{markBy}
-use Rattle.surface.specs.Patterns.{digitOf, markIn}
+use Rattle.surface.specs.Patterns.{markIn}
 use Rattle.surface.proofs.OfPlots.Patterns.{changesIn-le}
 use Rattle.post.proofs.mark.mark_of.Statement.{statement}
 use Rattle.post.proofs.mark.mark_of.Tie as tie

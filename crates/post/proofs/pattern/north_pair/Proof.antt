@@ -1,6 +1,6 @@
 -- A side and a corner, each compared where it is there.
 use native.Mathlib.Omega.{arith}
-use mathlib.Core.Path.{refl, _∙_}
+use mathlib.Core.Path.{_∙_}
 use borrow.Author.Needs.{needs}
 use borrow.Author.Tests.{not-true}
 use Rattle.surface.specs.Edges.{right, top}

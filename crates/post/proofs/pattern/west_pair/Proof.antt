@@ -1,8 +1,7 @@
 -- A side and a corner, the corner compared where it is there.
 use native.Mathlib.Omega.{arith}
-use mathlib.Core.Path.{refl, _∙_}
+use mathlib.Core.Path.{_∙_}
 use borrow.Author.Needs.{needs}
-use borrow.Author.Tests.{not-true}
 use Rattle.surface.specs.Edges.{left, top}
 use Rattle.surface.specs.Flags.{westPair}
 use Rattle.post.proofs.Around.{cell-nw}
