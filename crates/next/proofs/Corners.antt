@@ -325,23 +325,6 @@ module _ {pl : Plot} {p : ℕ} (post : PostOf pl p) where
   abbrev at : Borders
   at = bordersOf pl.rows pl.columns p
 
-  -- the posts of the cells that are there
-  pub cell-posts : Neighbours pl.rows pl.columns p at (cells at)
-  cell-posts =
-      let s = post .valid .sides in
-      let n = neighbours s p (post .post) (fallsIn pl) in
-      record {
-        post = n .post;
-        north = n .north;
-        northEast = λ k. top-false s p .0 (both (at .top) (at .right) k .0);
-        east = n .east;
-        southEast = λ k. let b = both (at .right) (at .bottom) k in south-east s p (post .post) (b .0) (b .1);
-        south = n .south;
-        southWest = λ k. bottom-false s p (post .post) .0 (both (at .bottom) (at .left) k .0);
-        west = n .west;
-        northWest = λ k. let b = both (at .left) (at .top) k in north-west s p (post .post) (b .0) (b .1);
-      }
-
   -- the corners that matter: toward the posts that cells are cut by all that are there, the other way those with both sides of their cell that way
   abbrev pub seen : Bool → Corners
   seen upward = cond (flipped pl.highest upward) (cornersLower (toward upward pl .lower) pl.columns p at) (cells at)
@@ -376,21 +359,18 @@ module _ {pl : Plot} {p : ℕ} (post : PostOf pl p) where
           down-is post (off refl) ∙ every-corner (below pl) (below-strict pl) pl.columns p (post .valid .sides .wide) at north west corner (fallsIn pl) (cut false e)
 
   -- on no border
+  pub record Off : Type 0 where
+    pub top : top pl.columns p ≡ false
+    pub right : right pl.columns p ≡ false
+    pub bottom : bottom pl.rows pl.columns p ≡ false
+    pub left : left pl.columns p ≡ false
+
   module _ (border : isBorder pl.rows pl.columns p ≡ false) where
-    off-top : top pl.columns p ≡ false
-    off-top = or-left _ _ border
-
-    off-right : right pl.columns p ≡ false
-    off-right = or-left _ _ (or-right (top pl.columns p) _ border)
-
-    off-bottom : bottom pl.rows pl.columns p ≡ false
-    off-bottom = or-left _ _ (or-right (right pl.columns p) _ (or-right (top pl.columns p) _ border))
-
-    off-left : left pl.columns p ≡ false
-    off-left = or-right (bottom pl.rows pl.columns p) _ (or-right (right pl.columns p) _ (or-right (top pl.columns p) _ border))
+    pub off-borders : Off
+    off-borders =
+        let r = or-right (top pl.columns p) _ border in
+        let b = or-right (right pl.columns p) _ r in
+        record { top = or-left _ _ border; right = or-left _ _ r; bottom = or-left _ _ b; left = or-right (bottom pl.rows pl.columns p) _ b }
 
     pub inside-at : at ≡ inside
-    inside-at = rw (off-top, off-right, off-bottom, off-left)
-
-    pub inside-posts : Neighbours pl.rows pl.columns p inside (cells inside)
-    inside-posts = subst (λ (a : Borders). Neighbours pl.rows pl.columns p a (cells a)) inside-at cell-posts
+    inside-at = rw (off-borders .top, off-borders .right, off-borders .bottom, off-borders .left)

@@ -1,38 +1,42 @@
--- Keys: the height of a post q and its place in the block of nine round p, in one number. In a plot of at most 120 columns a place is below 256, so
--- comparing keys is comparing posts in the height order.
-use Prim.Native.Nat.{ℕ, _+_, _-_, _*_, _≤_, _<_}
+-- Keys: the height of a post q and its place among the nine posts round p, in one number. A place is below 2,048, so comparing keys is comparing posts in
+-- the height order; and a key fits 32 bits with a sign.
+use Prim.Native.Nat.{ℕ, _+_, _-_, _%_, _≤_, _<_}
 use mathlib.Core.Bool.{Bool, cond, not, _&&_}
 use mathlib.Core.List.{List, [], _∷_}
-use lib.Dec.{ltb}
-use lib.IntN.{ℤ, pos, negsuc}
+use lib.IntN.{ℤ, pos, negsuc, _+ℤ_, _*ℤ_}
+use lib.Signed.{ltZ}
 use Rattle.surface.specs.Plot.{Plot, posts, height}
-use Rattle.surface.specs.Edges.{lowestOr}
 use Rattle.surface.specs.Flags.{flipped}
-use Rattle.order.specs.Ties.{Near, tiePlace}
+use Rattle.order.specs.Ties.{Stands, tiePlace}
 use Rattle.post.specs.declared.border.Borders.{Borders}
 use Rattle.next.specs.declared.key.Block.{Block}
 use Rattle.next.specs.Scan.{cells}
 
--- a height counted from the lowest there may be
-unfoldable pub raised : ℤ → ℕ
-raised (pos n) = n + 1000000
-raised (negsuc n) = 999999 - n
+abbrev pub keyBy : ℤ → ℕ → ℤ
+keyBy height place = height *ℤ pos 2048 +ℤ pos place
 
-abbrev pub keyOf : Plot → ℕ → ℕ → ℕ
-keyOf pl p q = raised (height pl q) * 256 + tiePlace pl.columns p q
+abbrev pub keyOf : Plot → ℕ → ℕ → ℤ
+keyOf pl p q = keyBy (height pl q) (tiePlace pl.columns p q)
 
--- what stands `ahead` numbers after p and `back` before that is a post, as near to p as those of the block are
-pub record Beside (pl : Plot) (p ahead back : ℕ) : Type 0 where
-  pub from : back ≤ p + ahead
-  pub post : p + ahead - back < posts pl
-  pub near : Near pl.columns p (p + ahead - back)
+-- a key is not below that of the lowest height and place 0
+abbrev pub isKey : ℤ → Bool
+isKey k = not (ltZ k (negsuc 2047999999))
 
--- a key fits 31 bits, so that it may be compared as a signed number
-abbrev pub Small : ℕ → Type 0
-Small k = k < 2147483648
+-- the number, among the nine, of the post that a key tells: its last eight binary digits
+unfoldable pub numberIn : ℤ → ℕ
+numberIn (pos n) = n % 256
+numberIn (negsuc n) = 255 - n % 256
+
+-- there is a post so many rows and columns after the first of the nine round p
+pub record There (pl : Plot) (p down along : ℕ) : Type 0 where
+  pub q : ℕ
+  pub post : q < posts pl
+  pub stands : Stands pl.columns p q down along
+  pub inRows : down ≤ 2
+  pub inColumns : along ≤ 2
 
 -- the keys of p and of the posts round it; where there is no post, p's own
-abbrev pub blockOf : (ℕ → ℕ) → ℕ → ℕ → Borders → Block
+abbrev pub blockOf : (ℕ → ℤ) → ℕ → ℕ → Borders → Block
 blockOf key columns p at =
     record {
       post = key p;
@@ -46,23 +50,20 @@ blockOf key columns p at =
       nw = key (cond (cells at .nw) (p - (columns + 1)) p);
     }
 
-pub record SmallBlock (b : Block) : Type 0 where
-  pub post : Small (b .post)
-  pub n : Small (b .n)
-  pub ne : Small (b .ne)
-  pub e : Small (b .e)
-  pub se : Small (b .se)
-  pub s : Small (b .s)
-  pub sw : Small (b .sw)
-  pub w : Small (b .w)
-  pub nw : Small (b .nw)
-
-abbrev pub around : Block → List ℕ
+abbrev pub around : Block → List ℤ
 around b = b .n ∷ b .ne ∷ b .e ∷ b .se ∷ b .s ∷ b .sw ∷ b .w ∷ b .nw ∷ []
 
 -- the first is lower, or where `up` higher
-abbrev pub farther : Bool → ℕ → ℕ → Bool
-farther up a b = cond up (ltb b a) (ltb a b)
+abbrev pub farther : Bool → ℤ → ℤ → Bool
+farther up a b = cond up (ltZ b a) (ltZ a b)
+
+-- the farther of two keys, the first where neither is; and the farthest of a key and of others
+abbrev pub fartherOf : Bool → ℤ → ℤ → ℤ
+fartherOf up x y = cond (farther up y x) y x
+
+unfoldable pub farthest : Bool → ℤ → List ℤ → ℤ
+farthest up x [] = x
+farthest up x (y ∷ l) = farthest up (fartherOf up x y) l
 
 -- a block with those corners only that have both sides of their cell below the post, or where `up` above it
 abbrev pub cornersKept : Bool → Block → Block
@@ -85,5 +86,5 @@ cornersKept up b =
 
 -- the lowest key, or where `up` the highest, of a post and its neighbours; `highest` tells by which posts cells are cut. Toward these all corners may be
 -- looked at
-abbrev pub farthestOf : Bool → Bool → Block → ℕ
-farthestOf up highest b = lowestOr (farther up) (b .post) (around (cond (flipped highest up) (cornersKept up b) b))
+abbrev pub farthestOf : Bool → Bool → Block → ℤ
+farthestOf up highest b = farthest up (b .post) (around (cond (flipped highest up) (cornersKept up b) b))

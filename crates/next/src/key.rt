@@ -1,96 +1,95 @@
-// The posts round a post as keys: a post's height and its place in the block of nine, in one number, so that one comparison settles a tie too.
+// The posts round a post as keys: a post's height and its place among the nine, in one number, so that one comparison settles a tie too.
 use order::post_at;
 use order::tie_place;
 use post::border::Borders;
 use surface::DOWN;
 use surface::Grid;
-use surface::HIGHEST;
 use surface::UP;
 ghost use mathlib.Core.Path.{_≡_};
-ghost use mathlib.Core.Bool.{true, cond};
-ghost use Prim.Native.Nat.{_+_, _-_, _≤_, _<_, _%_};
-ghost use lib.Dec.{ltb};
-ghost use Rattle.surface.specs.Plot.{plotOf, maxSide, maxPosts, isHeight, Valid, PostOf};
-ghost use Rattle.surface.specs.Edges.{lowerOf, lowestOr};
-ghost use Rattle.order.specs.Ties.{Near};
-ghost use Rattle.post.specs.Corners.{Neighbours};
-ghost use Rattle.next.specs.Scan.{inside, cells};
-ghost use Rattle.next.specs.Keys.{raised, keyOf, Beside, Small, SmallBlock, blockOf, around, farther, cornersKept, farthestOf};
+ghost use mathlib.Core.Bool.{true, false, cond};
+ghost use Prim.Native.Nat.{_+_, _-_, _*_, _≤_, _<_};
+ghost use Rattle.surface.specs.Plot.{plotOf, maxSide, maxPosts, row, isOdd, PostOf};
+ghost use Rattle.surface.specs.Edges.{isBorder};
+ghost use Rattle.post.specs.Corners.{bordersOf};
+ghost use Rattle.next.specs.Scan.{inside};
+ghost use Rattle.next.specs.Keys.{keyOf, isKey, numberIn, There, blockOf, around, farther, fartherOf, farthest, cornersKept, farthestOf};
 
 // The keys of a post and of the eight round it. Where there is no neighbour it is the post's own, which is never chosen before another.
 pub struct Block {
-    pub post: u32,
-    pub n: u32,
-    pub ne: u32,
-    pub e: u32,
-    pub se: u32,
-    pub s: u32,
-    pub sw: u32,
-    pub w: u32,
-    pub nw: u32,
+    pub post: i32,
+    pub n: i32,
+    pub ne: i32,
+    pub e: i32,
+    pub se: i32,
+    pub s: i32,
+    pub sw: i32,
+    pub w: i32,
+    pub nw: i32,
 }
 
-// A height counted from the lowest there may be, which is as far below 0 as the highest is above it.
-fn raise(h: i32) -> u32
-    requires { ⌜ isHeight h ≡ true ⌝ }
-    ensures { λ r. ⌜ (r ≡ raised h) × (r ≤ 2000000) ⌝ }
+// The key of the post that stands `down` rows and `along` columns after the first of the nine round p, which stands in an odd row or not.
+fn key_at(heights: &[i32], grid: Grid, p: usize, odd: bool, down: usize, along: usize) -> i32
+    requires { ⌜ PostOf (plotOf grid (now heights)) p × (odd ≡ isOdd (row (grid .columns) p)) × There (plotOf grid (now heights)) p down along ⌝ }
+    ensures { λ r. ⌜ r ≡ keyOf (plotOf grid (now (heights .entry))) p (p + (down * grid .columns + along) - (grid .columns + 1)) ⌝ }
 {
-    (h + HIGHEST) as u32
+    let q = p + (down * grid.columns + along) - (grid.columns + 1);
+    heights[q] * 2048 + tie_place(grid, odd, down, along) as i32
 }
 
-// The key of q among the posts round p.
-fn key_of(heights: &[i32], grid: Grid, p: usize, q: usize) -> u32
-    requires { ⌜ PostOf (plotOf grid (now heights)) q × Near (grid .columns) p q ⌝ }
-    ensures { λ r. ⌜ (r ≡ keyOf (plotOf grid (now (heights .entry))) p q) × Small r ⌝ }
-{
-    raise(heights[q]) * 256 + tie_place(grid, p, q)
-}
-
-// The key of the post `ahead` numbers after p and `back` before that, or p's own where it is not there.
-fn key_round(heights: &[i32], grid: Grid, p: usize, ahead: usize, back: usize, there: bool) -> u32
-    requires { ⌜ PostOf (plotOf grid (now heights)) p × (ahead < maxPosts) × (there ≡ true → Beside (plotOf grid (now heights)) p ahead back) ⌝ }
-    ensures { λ r. ⌜ (r ≡ keyOf (plotOf grid (now (heights .entry))) p (cond there (p + ahead - back) p)) × Small r ⌝ }
+// The same where it is there, or else p's own key.
+fn key_round(
+    heights: &[i32],
+    grid: Grid,
+    p: usize,
+    odd: bool,
+    own: i32,
+    down: usize,
+    along: usize,
+    there: bool,
+) -> i32
+    requires { ⌜ PostOf (plotOf grid (now heights)) p × (odd ≡ isOdd (row (grid .columns) p)) × (own ≡ keyOf (plotOf grid (now heights)) p p) × (there ≡ true → There (plotOf grid (now heights)) p down along) ⌝ }
+    ensures { λ r. ⌜ r ≡ keyOf (plotOf grid (now (heights .entry))) p (cond there (p + (down * grid .columns + along) - (grid .columns + 1)) p) ⌝ }
 {
     if there {
-        return key_of(heights, grid, p, p + ahead - back);
+        return key_at(heights, grid, p, odd, down, along);
     }
-    key_of(heights, grid, p, p)
+    own
 }
+
 // The keys round p, which stands at these borders.
-fn block_at(heights: &[i32], grid: Grid, p: usize, at: Borders) -> Block
-    requires { ⌜ Valid (plotOf grid (now heights)) × Neighbours (grid .rows) (grid .columns) p at (cells at) ⌝ }
-    ensures { λ r. ⌜ (r ≡ blockOf (keyOf (plotOf grid (now (heights .entry))) p) (grid .columns) p at) × SmallBlock r ⌝ }
+fn block_at(heights: &[i32], grid: Grid, p: usize, at: Borders, odd: bool) -> Block
+    requires { ⌜ PostOf (plotOf grid (now heights)) p × (at ≡ bordersOf (grid .rows) (grid .columns) p) × (odd ≡ isOdd (row (grid .columns) p)) ⌝ }
+    ensures { λ r. ⌜ r ≡ blockOf (keyOf (plotOf grid (now (heights .entry))) p) (grid .columns) p at ⌝ }
 {
-    let columns = grid.columns;
+    let own = key_at(heights, grid, p, odd, 1, 1);
     Block {
-        post: key_of(heights, grid, p, p),
-        n: key_round(heights, grid, p, 0, columns, !at.top),
-        ne: key_round(heights, grid, p, 1, columns, !at.top & !at.right),
-        e: key_round(heights, grid, p, 1, 0, !at.right),
-        se: key_round(heights, grid, p, columns + 1, 0, !at.right & !at.bottom),
-        s: key_round(heights, grid, p, columns, 0, !at.bottom),
-        sw: key_round(heights, grid, p, columns, 1, !at.bottom & !at.left),
-        w: key_round(heights, grid, p, 0, 1, !at.left),
-        nw: key_round(heights, grid, p, 0, columns + 1, !at.left & !at.top),
+        post: own,
+        n: key_round(heights, grid, p, odd, own, 0, 1, !at.top),
+        ne: key_round(heights, grid, p, odd, own, 0, 2, !at.top & !at.right),
+        e: key_round(heights, grid, p, odd, own, 1, 2, !at.right),
+        se: key_round(heights, grid, p, odd, own, 2, 2, !at.right & !at.bottom),
+        s: key_round(heights, grid, p, odd, own, 2, 1, !at.bottom),
+        sw: key_round(heights, grid, p, odd, own, 2, 0, !at.bottom & !at.left),
+        w: key_round(heights, grid, p, odd, own, 1, 0, !at.left),
+        nw: key_round(heights, grid, p, odd, own, 0, 0, !at.left & !at.top),
     }
 }
 
 // The keys round p, which stands on no border: nothing to choose, so that a walk, which waits for each key, is the quicker.
-fn block_inside(heights: &[i32], grid: Grid, p: usize) -> Block
-    requires { ⌜ Valid (plotOf grid (now heights)) × Neighbours (grid .rows) (grid .columns) p inside (cells inside) ⌝ }
-    ensures { λ r. ⌜ (r ≡ blockOf (keyOf (plotOf grid (now (heights .entry))) p) (grid .columns) p inside) × SmallBlock r ⌝ }
+fn block_inside(heights: &[i32], grid: Grid, p: usize, odd: bool) -> Block
+    requires { ⌜ PostOf (plotOf grid (now heights)) p × (isBorder (grid .rows) (grid .columns) p ≡ false) × (odd ≡ isOdd (row (grid .columns) p)) ⌝ }
+    ensures { λ r. ⌜ r ≡ blockOf (keyOf (plotOf grid (now (heights .entry))) p) (grid .columns) p inside ⌝ }
 {
-    let columns = grid.columns;
     Block {
-        post: key_of(heights, grid, p, p),
-        n: key_of(heights, grid, p, p - columns),
-        ne: key_of(heights, grid, p, p - (columns - 1)),
-        e: key_of(heights, grid, p, p + 1),
-        se: key_of(heights, grid, p, p + (columns + 1)),
-        s: key_of(heights, grid, p, p + columns),
-        sw: key_of(heights, grid, p, p + (columns - 1)),
-        w: key_of(heights, grid, p, p - 1),
-        nw: key_of(heights, grid, p, p - (columns + 1)),
+        post: key_at(heights, grid, p, odd, 1, 1),
+        n: key_at(heights, grid, p, odd, 0, 1),
+        ne: key_at(heights, grid, p, odd, 0, 2),
+        e: key_at(heights, grid, p, odd, 1, 2),
+        se: key_at(heights, grid, p, odd, 2, 2),
+        s: key_at(heights, grid, p, odd, 2, 1),
+        sw: key_at(heights, grid, p, odd, 2, 0),
+        w: key_at(heights, grid, p, odd, 1, 0),
+        nw: key_at(heights, grid, p, odd, 0, 0),
     }
 }
 
@@ -102,32 +101,22 @@ fn pick(b: bool, x: bool, y: bool) -> bool
 }
 
 // The same of keys.
-fn choose(b: bool, x: u32, y: u32) -> u32
+fn choose(b: bool, x: i32, y: i32) -> i32
     ensures { λ r. ⌜ r ≡ cond b x y ⌝ }
 {
     if b { x } else { y }
 }
 
-// x is less than y. As signed numbers, which vector code compares in one step.
-fn is_less(x: u32, y: u32) -> bool
-    requires { ⌜ Small x × Small y ⌝ }
-    ensures { λ r. ⌜ r ≡ ltb x y ⌝ }
-{
-    (x as i32) < (y as i32)
-}
-
 // x is lower than y, or where `up` higher.
-fn is_farther(up: bool, x: u32, y: u32) -> bool
-    requires { ⌜ Small x × Small y ⌝ }
+fn is_farther(up: bool, x: i32, y: i32) -> bool
     ensures { λ r. ⌜ r ≡ farther up x y ⌝ }
 {
-    pick(up, is_less(y, x), is_less(x, y))
+    pick(up, y < x, x < y)
 }
 
 // The block with those corners only that have both sides of their cell below the post, or where `up` above it.
 fn keep_corners(up: bool, b: Block) -> Block
-    requires { ⌜ SmallBlock b ⌝ }
-    ensures { λ r. ⌜ (r ≡ cornersKept up b) × SmallBlock r ⌝ }
+    ensures { λ r. ⌜ r ≡ cornersKept up b ⌝ }
 {
     let n = is_farther(up, b.n, b.post);
     let e = is_farther(up, b.e, b.post);
@@ -147,17 +136,15 @@ fn keep_corners(up: bool, b: Block) -> Block
 }
 
 // Of two keys the lower, or where `up` the higher.
-fn farther_of(up: bool, x: u32, y: u32) -> u32
-    requires { ⌜ Small x × Small y ⌝ }
-    ensures { λ r. ⌜ (r ≡ lowerOf (farther up) x y) × Small r ⌝ }
+fn farther_of(up: bool, x: i32, y: i32) -> i32
+    ensures { λ r. ⌜ r ≡ fartherOf up x y ⌝ }
 {
     choose(is_farther(up, y, x), y, x)
 }
 
 // The lowest key of a block, or where `up` the highest.
-fn farthest_in(up: bool, b: Block) -> u32
-    requires { ⌜ SmallBlock b ⌝ }
-    ensures { λ r. ⌜ r ≡ lowestOr (farther up) (b .post) (around b) ⌝ }
+fn farthest_in(up: bool, b: Block) -> i32
+    ensures { λ r. ⌜ r ≡ farthest up (b .post) (around b) ⌝ }
 {
     let n = farther_of(up, b.post, b.n);
     let ne = farther_of(up, n, b.ne);
@@ -171,11 +158,11 @@ fn farthest_in(up: bool, b: Block) -> u32
 
 // The lowest key, or where `up` the highest, of p, which stands on no border, and its neighbours. Four cases, so that the compiler knows the direction in
 // each.
-pub(crate) fn farthest_inside(heights: &[i32], grid: Grid, p: usize, up: bool) -> u32
-    requires { ⌜ Valid (plotOf grid (now heights)) × Neighbours (grid .rows) (grid .columns) p inside (cells inside) ⌝ }
+pub(crate) fn farthest_inside(heights: &[i32], grid: Grid, p: usize, odd: bool, up: bool) -> i32
+    requires { ⌜ PostOf (plotOf grid (now heights)) p × (isBorder (grid .rows) (grid .columns) p ≡ false) × (odd ≡ isOdd (row (grid .columns) p)) ⌝ }
     ensures { λ r. ⌜ r ≡ farthestOf up (grid .highest) (blockOf (keyOf (plotOf grid (now (heights .entry))) p) (grid .columns) p inside) ⌝ }
 {
-    let b = block_inside(heights, grid, p);
+    let b = block_inside(heights, grid, p, odd);
     if up {
         if grid.highest {
             return farthest_in(UP, b);
@@ -189,21 +176,21 @@ pub(crate) fn farthest_inside(heights: &[i32], grid: Grid, p: usize, up: bool) -
 }
 
 // The highest key of p, which stands at these borders, and its neighbours.
-pub(crate) fn highest_at(heights: &[i32], grid: Grid, p: usize, at: Borders) -> u32
-    requires { ⌜ Valid (plotOf grid (now heights)) × Neighbours (grid .rows) (grid .columns) p at (cells at) ⌝ }
+pub(crate) fn highest_at(heights: &[i32], grid: Grid, p: usize, at: Borders, odd: bool) -> i32
+    requires { ⌜ PostOf (plotOf grid (now heights)) p × (at ≡ bordersOf (grid .rows) (grid .columns) p) × (odd ≡ isOdd (row (grid .columns) p)) ⌝ }
     ensures { λ r. ⌜ r ≡ farthestOf true (grid .highest) (blockOf (keyOf (plotOf grid (now (heights .entry))) p) (grid .columns) p at) ⌝ }
 {
-    let b = block_at(heights, grid, p, at);
+    let b = block_at(heights, grid, p, at, odd);
     if grid.highest {
         return farthest_in(UP, b);
     }
     farthest_in(UP, keep_corners(UP, b))
 }
 
-// The post that has key k among those round p.
-pub(crate) fn post_of(grid: Grid, p: usize, k: u32) -> usize
-    requires { ⌜ (grid .columns ≤ maxSide) × (p < maxPosts) × (grid .columns + 1 ≤ p + k % 256) ⌝ }
-    ensures { λ r. ⌜ r ≡ p + k % 256 - (grid .columns + 1) ⌝ }
+// The post that has key k among those round p. A key and as much as makes the lowest one 0 is not negative; its last eight binary digits are the same.
+pub(crate) fn post_of(grid: Grid, p: usize, k: i32) -> usize
+    requires { ⌜ (grid .columns ≤ maxSide) × (p < maxPosts) × (isKey k ≡ true) × (grid .columns + 1 ≤ p + numberIn k) ⌝ }
+    ensures { λ r. ⌜ r ≡ p + numberIn k - (grid .columns + 1) ⌝ }
 {
-    post_at(grid, p, k % 256)
+    post_at(grid, p, (k as i64 + 2048000000) as u32 % 256)
 }

@@ -1,2 +1,3 @@
 -- One comparison of heights settles the order of two posts of which it is known which is lower where they are level.
 pub mod Level
+pub mod Places

@@ -3,16 +3,16 @@
 use surface::Grid;
 use surface::VIRTUAL_PIT;
 ghost use mathlib.Core.Path.{_≡_};
-ghost use mathlib.Core.Bool.{true, false};
+ghost use mathlib.Core.Bool.{true, false, cond};
 ghost use Prim.Native.Nat.{_+_, _-_, _<_, _≤_};
 ghost use lib.IntN.{pos};
 ghost use lib.Signed.{ltZ};
 ghost use lib.ListN.{length, getD};
 ghost use Rattle.surface.specs.Lists.{listOf, stores};
-ghost use Rattle.surface.specs.Plot.{plotOf, posts, maxSide, maxPosts, Vertex, below, tied, Valid, PostOf};
+ghost use Rattle.surface.specs.Plot.{plotOf, posts, maxSide, maxPosts, row, column, Vertex, isOdd, drivenBefore, below, tied, Sides, Valid, PostOf};
 ghost use Rattle.surface.specs.Edges.{lowerOf};
 ghost use Rattle.surface.specs.Lines.{toward};
-ghost use Rattle.order.specs.Ties.{Near, tiePlace};
+ghost use Rattle.order.specs.Ties.{Drives, placeAt};
 
 // How many posts are compared at once.
 const BLOCK: usize = 16;
@@ -25,20 +25,36 @@ fn is_less(heights: &[i32], p: usize, q: usize) -> bool
     heights[p] < heights[q]
 }
 
-// Post q, the lower of the two where they are level, is below p.
-pub fn earlier_is_below(heights: &[i32], grid: Grid, p: usize, q: usize) -> bool
-    requires { ⌜ PostOf (plotOf grid (now heights)) p × (q < p) ⌝ }
-    ensures { λ r. ⌜ r ≡ below (plotOf grid (now (heights .entry))) q p ⌝ }
+// The row of post p is odd, so that it is driven from its last column to its first.
+pub fn is_odd_row(grid: Grid, p: usize) -> bool
+    requires { ⌜ 1 ≤ grid .columns ⌝ }
+    ensures { λ r. ⌜ r ≡ isOdd (row (grid .columns) p) ⌝ }
 {
-    !is_less(heights, p, q)
+    p / grid.columns % 2 == 1
 }
 
-// Post q, the higher of the two where they are level, is below p.
-pub fn later_is_below(heights: &[i32], grid: Grid, p: usize, q: usize) -> bool
-    requires { ⌜ PostOf (plotOf grid (now heights)) q × (p < q) ⌝ }
-    ensures { λ r. ⌜ r ≡ below (plotOf grid (now (heights .entry))) q p ⌝ }
+// Post p is driven past before post q.
+fn is_driven_before(grid: Grid, p: usize, q: usize) -> bool
+    requires { ⌜ Sides (grid .rows) (grid .columns) ⌝ }
+    ensures { λ r. ⌜ r ≡ drivenBefore (grid .columns) p q ⌝ }
 {
-    is_less(heights, q, p)
+    let r = p / grid.columns;
+    let s = q / grid.columns;
+    if r != s {
+        return r < s;
+    }
+    if r % 2 == 1 {
+        return q < p;
+    }
+    p < q
+}
+
+// Post p is below q; `tie` tells whether it is where their heights are equal. (So written, one comparison: an `if` by `tie` would be two in vector code.)
+pub fn is_below_by(heights: &[i32], grid: Grid, p: usize, q: usize, tie: bool) -> bool
+    requires { ⌜ Valid (plotOf grid (now heights)) × (p < posts (plotOf grid (now heights))) × (q < posts (plotOf grid (now heights))) × (tie ≡ drivenBefore (grid .columns) p q) ⌝ }
+    ensures { λ r. ⌜ r ≡ below (plotOf grid (now (heights .entry))) p q ⌝ }
+{
+    heights[p] < heights[q] + tie as i32
 }
 
 // Vertex p, a post or the virtual pit, is below vertex q.
@@ -52,10 +68,13 @@ pub fn is_below(heights: &[i32], grid: Grid, p: usize, q: usize) -> bool
     if p == VIRTUAL_PIT {
         return true;
     }
-    if p < q {
-        return earlier_is_below(heights, grid, q, p);
+    if is_less(heights, p, q) {
+        return true;
     }
-    is_less(heights, p, q)
+    if is_less(heights, q, p) {
+        return false;
+    }
+    is_driven_before(grid, p, q)
 }
 
 // Vertex q is a post, and of p's height.
@@ -91,16 +110,16 @@ pub fn lower_of(heights: &[i32], grid: Grid, up: bool, p: usize, q: usize) -> us
     p
 }
 
-// A block of flags: whether the posts from q on are below those from p on, which have lower numbers. It is an array of its own: so the compiler knows
-// that no store changes a height, and compares them all at once.
-fn later_block(heights: &[i32], grid: Grid, p: usize, q: usize) -> [bool; BLOCK]
-    requires { ⌜ Valid (plotOf grid (now heights)) × (p < q) × (q + 16 ≤ posts (plotOf grid (now heights))) ⌝ }
+// A block of flags: whether the posts from q on are below those from p on, `tie` telling whether they are where heights are equal. It is an array of
+// its own: so the compiler knows that no store changes a height, and compares them all at once.
+fn later_block(heights: &[i32], grid: Grid, p: usize, q: usize, tie: bool) -> [bool; BLOCK]
+    requires { ⌜ Valid (plotOf grid (now heights)) × (p < q) × (q + 16 ≤ posts (plotOf grid (now heights))) × Drives (grid .columns) tie p q 16 ⌝ }
     ensures { λ r. ⌜ r ≡ listOf (λ k. below (plotOf grid (now (heights .entry))) (q + k) (p + k)) 16 ⌝ }
 {
     let mut block = [false; BLOCK];
     let mut k = 0;
     while k < BLOCK {
-        block[k] = later_is_below(heights, grid, p + k, q + k);
+        block[k] = is_below_by(heights, grid, q + k, p + k, tie);
         k += 1;
     }
     block
@@ -119,11 +138,19 @@ fn put_block(block: [bool; BLOCK], flags: &mut [bool], at: usize)
 }
 
 // `later_row` for a block. (Both calls of this one the compiler makes fast; of two functions called twice it does so once.)
-fn later_flags(heights: &[i32], grid: Grid, p: usize, q: usize, flags: &mut [bool], at: usize)
-    requires { ⌜ Valid (plotOf grid (now heights)) × (p < q) × (q + 16 ≤ posts (plotOf grid (now heights))) × (at + 16 ≤ length (now flags)) ⌝ }
+fn later_flags(
+    heights: &[i32],
+    grid: Grid,
+    p: usize,
+    q: usize,
+    tie: bool,
+    flags: &mut [bool],
+    at: usize,
+)
+    requires { ⌜ Valid (plotOf grid (now heights)) × (p < q) × (q + 16 ≤ posts (plotOf grid (now heights))) × Drives (grid .columns) tie p q 16 × (at + 16 ≤ length (now flags)) ⌝ }
     ensures { λ _. ⌜ now (flags .exit) ≡ stores (λ k. below (plotOf grid (now (heights .entry))) (q + (k - at)) (p + (k - at))) at 16 (now (flags .entry)) ⌝ }
 {
-    put_block(later_block(heights, grid, p, q), flags, at);
+    put_block(later_block(heights, grid, p, q, tie), flags, at);
 }
 
 // `later_row` flag by flag, for rows shorter than a block.
@@ -132,68 +159,94 @@ fn later_each(
     grid: Grid,
     p: usize,
     q: usize,
+    tie: bool,
     flags: &mut [bool],
     at: usize,
     n: usize,
 )
-    requires { ⌜ Valid (plotOf grid (now heights)) × (p < q) × (q + n ≤ posts (plotOf grid (now heights))) × (at + n ≤ length (now flags)) ⌝ }
+    requires { ⌜ Valid (plotOf grid (now heights)) × (p < q) × (q + n ≤ posts (plotOf grid (now heights))) × Drives (grid .columns) tie p q n × (at + n ≤ length (now flags)) ⌝ }
     ensures { λ _. ⌜ now (flags .exit) ≡ stores (λ k. below (plotOf grid (now (heights .entry))) (q + (k - at)) (p + (k - at))) at n (now (flags .entry)) ⌝ }
 {
     let mut i = 0;
     while i < n {
-        flags[at + i] = later_is_below(heights, grid, p + i, q + i);
+        flags[at + i] = is_below_by(heights, grid, q + i, p + i, tie);
         i += 1;
     }
 }
 
-// Flags `at` and on, n of them: whether the posts from q on are below those from p on, which have lower numbers.
+// Flags `at` and on, n of them: whether the posts from q on are below those from p on, which have lower numbers; `tie` tells whether they are where
+// heights are equal.
 pub fn later_row(
     heights: &[i32],
     grid: Grid,
     p: usize,
     q: usize,
+    tie: bool,
     flags: &mut [bool],
     at: usize,
     n: usize,
 )
-    requires { ⌜ Valid (plotOf grid (now heights)) × (p < q) × (q + n ≤ posts (plotOf grid (now heights))) × (at + n ≤ length (now flags)) ⌝ }
+    requires { ⌜ Valid (plotOf grid (now heights)) × (p < q) × (q + n ≤ posts (plotOf grid (now heights))) × Drives (grid .columns) tie p q n × (at + n ≤ length (now flags)) ⌝ }
     ensures { λ _. ⌜ now (flags .exit) ≡ stores (λ k. below (plotOf grid (now (heights .entry))) (q + (k - at)) (p + (k - at))) at n (now (flags .entry)) ⌝ }
 {
     if n < BLOCK {
-        later_each(heights, grid, p, q, flags, at, n);
+        later_each(heights, grid, p, q, tie, flags, at, n);
         return;
     }
     let mut i = 0;
     while i + BLOCK < n {
-        later_flags(heights, grid, p + i, q + i, flags, at + i);
+        later_flags(heights, grid, p + i, q + i, tie, flags, at + i);
         i += BLOCK;
     }
     // the last block ends where the row does, and may store some flags again
     let last = n - BLOCK;
-    later_flags(heights, grid, p + last, q + last, flags, at + last);
+    later_flags(heights, grid, p + last, q + last, tie, flags, at + last);
 }
 
-// Flags 1 and on of the row that starts at `base`: whether a post is below the one before it in the row. (Only within a row does the order of level
-// posts hang on more than their rows.)
-pub fn east_row(heights: &[i32], grid: Grid, base: usize, flags: &mut [bool])
-    requires { ⌜ Valid (plotOf grid (now heights)) × (base + grid .columns ≤ posts (plotOf grid (now heights))) × (grid .columns ≤ length (now flags)) ⌝ }
+// Flags 1 and on of the row that starts at `base` and is odd or not: whether a post is below the one before it in the row.
+pub fn east_row(heights: &[i32], grid: Grid, base: usize, odd: bool, flags: &mut [bool])
+    requires { ⌜ Valid (plotOf grid (now heights)) × (column (grid .columns) base ≡ 0) × (odd ≡ isOdd (row (grid .columns) base)) × (base + grid .columns ≤ posts (plotOf grid (now heights))) × (grid .columns ≤ length (now flags)) ⌝ }
     ensures { λ _. ⌜ now (flags .exit) ≡ stores (λ k. below (plotOf grid (now (heights .entry))) (base + 1 + (k - 1)) (base + (k - 1))) 1 (grid .columns - 1) (now (flags .entry)) ⌝ }
 {
-    later_row(heights, grid, base, base + 1, flags, 1, grid.columns - 1);
+    later_row(
+        heights,
+        grid,
+        base,
+        base + 1,
+        odd,
+        flags,
+        1,
+        grid.columns - 1,
+    );
 }
 
-// The place of q in the block of nine posts round p: of two level posts in it the one with the lower place is lower.
-pub fn tie_place(grid: Grid, p: usize, q: usize) -> u32
-    requires { ⌜ (grid .columns ≤ maxSide) × (q < maxPosts) × Near (grid .columns) p q ⌝ }
-    ensures { λ r. ⌜ (r ≡ tiePlace (grid .columns) p q) × (r < 256) ⌝ }
+// The turns that the place of a post has for its column: in a row that is `turned`, driven from its last column, one for each of the three that follows.
+fn turns_back(turned: bool, along: usize) -> usize
+    requires { ⌜ along ≤ 2 ⌝ }
+    ensures { λ r. ⌜ (r ≡ cond turned (2 - along) 0) × (r ≤ 2) ⌝ }
 {
-    (q + grid.columns + 1 - p) as u32
+    if turned {
+        return 2 - along;
+    }
+    0
 }
 
-// The post that has this place.
-pub fn post_at(grid: Grid, p: usize, place: u32) -> usize
-    requires { ⌜ (grid .columns ≤ maxSide) × (p < maxPosts) × (place < 256) × (grid .columns + 1 ≤ p + place) ⌝ }
-    ensures { λ r. ⌜ r ≡ p + place - (grid .columns + 1) ⌝ }
+// The place of the post that stands `down` rows and `along` columns after the first of the nine round a post, whose row is odd or not: of two level posts of
+// the nine the one with the lower place is lower. A place is the post's number among the nine, and 256 for each turn: two for a row, and in a row that is
+// driven from its last column one for each column that follows.
+pub fn tie_place(grid: Grid, odd: bool, down: usize, along: usize) -> u32
+    requires { ⌜ (grid .columns ≤ maxSide) × (down ≤ 2) × (along ≤ 2) ⌝ }
+    ensures { λ r. ⌜ (r ≡ placeAt (grid .columns) odd down along) × (r < 2048) ⌝ }
 {
-    p + place as usize - (grid.columns + 1)
+    let number = down * grid.columns + along;
+    let turns = 2 * down + turns_back(odd ^ (down != 1), along);
+    (256 * turns + number) as u32
+}
+
+// The post that has this number among the nine round p.
+pub fn post_at(grid: Grid, p: usize, number: u32) -> usize
+    requires { ⌜ (grid .columns ≤ maxSide) × (p < maxPosts) × (number < 256) × (grid .columns + 1 ≤ p + number) ⌝ }
+    ensures { λ r. ⌜ r ≡ p + number - (grid .columns + 1) ⌝ }
+{
+    (p as u32 + number - (grid.columns + 1) as u32) as usize
 }

@@ -11,7 +11,7 @@ use lib.ListN.{length, getD, set, length-set, List·getD-eq-default}
 use lib.Seq.{getD-set-same, getD-set-other}
 use borrow.Author.Tests.{eq-eqb, ne-eqb, ltb-true, ltb-false}
 use Rattle.surface.proofs.General.Bools.{either}
-use Rattle.parts.specs.Paths.{follow, along, pathEnd, Ends, Shorter}
+use Rattle.parts.specs.Paths.{follow, along, pathEnd, Ends, Shorter, Settled}
 
 -- what an entry is does not depend on what would stand for a missing one
 pub entry : {A : Type 0} (l : List A) (i : ℕ) (d e : A) → i < length l → getD l i d ≡ getD l i e
@@ -108,15 +108,6 @@ module _ {l : List ℕ} (ends : Ends l) where
     unfolding along
     shorter-told p h = let a = s .further p in a .1 ∙ ap (along l (a .0)) h ∙ along-stays l (a .0) (pathEnd l p) (ends .stays p)
 
-    -- what the posts met before turn i have, those up to it have where its post has it, in whatever order they are met
-    pub told-more : (at : ℕ → ℕ) (i : ℕ) → ((j : ℕ) → j < i → follow l (at j) ≡ pathEnd l (at j)) → follow l′ (at i) ≡ pathEnd l (at i)
-        → (j : ℕ) → j < i + 1 → follow l′ (at j) ≡ pathEnd l′ (at j)
-    told-more at i t h j k = go (ℕ-discrete j i) ∙ sym (shorter-end (at j))
-      where
-        go : Dec (j ≡ i) → follow l′ (at j) ≡ pathEnd l (at j)
-        go (yes e) = rw e h
-        go (no e) = shorter-told (at j) (t j (omega arith))
-
     pub shorter-ends : Ends l′
     shorter-ends =
         record {
@@ -126,6 +117,30 @@ module _ {l : List ℕ} (ends : Ends l) where
 pub shorter-none : (l : List ℕ) → Shorter l l
 unfolding along
 shorter-none l = record { size = refl; further = λ p. (0, refl) }
+
+-- posts settled: none yet, one, those of two such steps, and some of those
+pub settled-none : {l : List ℕ} → Ends l → Settled l l (λ _. ⊥)
+settled-none e = record { size = refl; ends = e; same = λ p. refl; keeps = λ p h. h; told = λ p h. absurd h }
+
+pub settled-one : {l l′ : List ℕ} → Ends l → Shorter l l′ → (p : ℕ) → follow l′ p ≡ pathEnd l p → Settled l l′ (λ q. q ≡ p)
+settled-one e s p h =
+    record { size = s .size; ends = shorter-ends e s; same = shorter-end e s; keeps = shorter-told e s; told = λ q i. rw i h }
+
+pub settled-then : {l l′ l″ : List ℕ} {D E F : ℕ → Type 0} → Settled l l′ D → Settled l′ l″ E → ((p : ℕ) → F p → D p ⊎ E p) → Settled l l″ F
+settled-then {l} {l′} {l″} {D} {E} s t f =
+    record {
+      size = t .size ∙ s .size;
+      ends = t .ends;
+      same = λ p. t .same p ∙ s .same p;
+      keeps = λ p h. on p (s .keeps p h);
+      told = λ p h. ⊎-elim (λ (d : D p). on p (s .told p d)) (λ (e : E p). t .told p e ∙ s .same p) (f p h);
+    }
+  where
+    on : (p : ℕ) → follow l′ p ≡ pathEnd l p → follow l″ p ≡ pathEnd l p
+    on p h = t .keeps p (h ∙ sym (s .same p)) ∙ s .same p
+
+pub settled-of : {l l′ : List ℕ} {D F : ℕ → Type 0} → Settled l l′ D → ((p : ℕ) → F p → D p) → Settled l l′ F
+settled-of s f = record { size = s .size; ends = s .ends; same = s .same; keeps = s .keeps; told = λ p h. s .told p (f p h) }
 
 -- what a walk reads and stores in a list of shorter paths, at a post e
 module _ {l l′ : List ℕ} (s : Shorter l l′) (e : ℕ) where

@@ -1,5 +1,5 @@
 -- A list of next posts, and the paths that it makes.
-use Prim.Native.Nat.{ℕ, zero, suc}
+use Prim.Native.Nat.{ℕ, zero, suc, _+_, _≤_, _<_}
 use mathlib.Core.Path.{_≡_}
 use mathlib.Core.List.{List}
 use lib.ListN.{length, getD}
@@ -25,3 +25,15 @@ pub record Ends (l : List ℕ) : Type 0 where
 pub record Shorter (l l′ : List ℕ) : Type 0 where
   pub size : length l′ ≡ length l
   pub further : (p : ℕ) → (k : ℕ) × (follow l′ p ≡ along l (suc k) p)
+
+-- the second list's paths end where those of the first do, and the ends are the entries of the posts told of, beside those that had them
+pub record Settled (l l′ : List ℕ) (Told : ℕ → Type 0) : Type 0 where
+  pub size : length l′ ≡ length l
+  pub ends : Ends l′
+  pub same : (p : ℕ) → pathEnd l′ p ≡ pathEnd l p
+  pub keeps : (p : ℕ) → follow l p ≡ pathEnd l p → follow l′ p ≡ pathEnd l p
+  pub told : (p : ℕ) → Told p → follow l′ p ≡ pathEnd l p
+
+-- n posts from `first` on
+abbrev pub Row : ℕ → ℕ → ℕ → Type 0
+Row first n p = (first ≤ p) × (p < first + n)

@@ -64,7 +64,7 @@ pub fn dales_and_hills(
         highest: said.rule == HIGHEST_RULE,
     };
     fill_nexts(heights, grid, dales, hills);
-    shorten(dales, DOWN);
-    shorten(hills, UP);
+    shorten(dales, grid, DOWN);
+    shorten(hills, grid, UP);
     answer
 }

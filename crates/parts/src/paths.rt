@@ -1,12 +1,14 @@
 // The ends of the paths that a list of next posts makes, found in the list itself. What has no entry in the list, as the virtual pit, is an end, and
 // so is what is its own entry. A path that was walked is made short, so that no later walk goes along it again: the whole takes time linear in the
 // list.
+use surface::Grid;
 ghost use mathlib.Core.Path.{_≡_};
 ghost use mathlib.Core.Bool.{cond};
-ghost use Prim.Native.Nat.{_<_};
+ghost use Prim.Native.Nat.{_+_, _*_, _≤_, _<_};
 ghost use lib.ListN.{length};
 ghost use Rattle.surface.specs.Lists.{listOf};
-ghost use Rattle.parts.specs.Paths.{follow, along, pathEnd, Ends, Shorter};
+ghost use Rattle.surface.specs.Plot.{Sides};
+ghost use Rattle.parts.specs.Paths.{follow, along, pathEnd, Ends, Shorter, Row, Settled};
 
 // The end of the path from p.
 fn end_of(list: &[u16], p: usize) -> u16
@@ -74,17 +76,31 @@ fn settle(list: &mut [u16], p: usize)
     shorten_path(list, p, end);
 }
 
-// Makes every post's entry the end of its path. On level ground next down goes to lower numbers and next up to higher ones: paths that go down are met
-// from the first post on, those that go `up` from the last, so that most are one step long when they are met.
-pub(crate) fn shorten(list: &mut [u16], up: bool)
-    requires { ⌜ Ends (now list) ⌝ }
-    ensures { λ _. ⌜ now (list .exit) ≡ listOf (pathEnd (now (list .entry))) (length (now (list .entry))) ⌝ }
+// Makes the end of its path the entry of each of n posts from `first` on; where `back`, from the last of them on.
+fn shorten_row(list: &mut [u16], first: usize, n: usize, back: bool)
+    requires { ⌜ Ends (now list) × (first + n ≤ length (now list)) ⌝ }
+    ensures { λ _. ⌜ Settled (now (list .entry)) (now (list .exit)) (Row first n) ⌝ }
 {
-    let n = list.len();
     let mut i = 0;
     while i < n {
-        let p = choose(up, n - 1 - i, i);
+        let p = first + choose(back, n - 1 - i, i);
         settle(list, p);
+        i += 1;
+    }
+}
+
+// Makes every post's entry the end of its path. Level ground is driven to and fro: next down goes to posts that are driven past before, and next up to later
+// ones. Paths that go down are met in the order of the drive, those that go `up` against it, so that most are one step long when they are met.
+pub(crate) fn shorten(list: &mut [u16], grid: Grid, up: bool)
+    requires { ⌜ Ends (now list) × Sides (grid .rows) (grid .columns) × (length (now list) ≡ grid .rows * grid .columns) ⌝ }
+    ensures { λ _. ⌜ now (list .exit) ≡ listOf (pathEnd (now (list .entry))) (length (now (list .entry))) ⌝ }
+{
+    let rows = grid.rows;
+    let columns = grid.columns;
+    let mut i = 0;
+    while i < rows {
+        let r = choose(up, rows - 1 - i, i);
+        shorten_row(list, r * columns, columns, (r % 2 == 1) ^ up);
         i += 1;
     }
 }

@@ -9,6 +9,7 @@ use lib.ListN.{getD}
 use Rattle.surface.specs.Plot.{Plot, posts, below, Valid}
 use Rattle.surface.specs.Edges.{bottom, left, right}
 use Rattle.surface.specs.Flags.{upperBy, northPair, westSign, westPair}
+use Rattle.surface.proofs.General.Bools.{not-not}
 use Rattle.surface.proofs.AnyOrder.Grid.{top-false, top-true, left-false, row-fits}
 use Rattle.surface.proofs.OfPlots.HeightOrder.{below-strict}
 use Rattle.patterns.specs.Rows.{upperIn, RowOf, Side, South}
@@ -94,10 +95,6 @@ pub record First (pl : Plot) (side south fall rise under : List Bool) : Type 0 w
   pub riseFalse : (c : ℕ) → c < pl.columns → getD rise (c + 1) false ≡ false
   pub west : getD under 0 false ≡ not (below pl pl.columns 0)
   pub along : (c : ℕ) → c + 1 < pl.columns → getD under (c + 1) false ≡ below pl (0 + (c + 1)) (0 + c)
-
-not-not : (x : Bool) → not (not x) ≡ x
-not-not true = refl
-not-not false = refl
 
 pub upper-first : {pl : Plot} → Valid pl → RowOf pl.rows pl.columns 0 → {side south fall rise under : List Bool} → First pl side south fall rise under → (c : ℕ) → c < pl.columns
     → upperIn pl.highest side south fall rise under c ≡ upperBy (northPair pl (0 + c)) (westPair pl (0 + c))

@@ -1,6 +1,6 @@
 // The patterns of a whole plot, a row at a time, by rows of comparisons of the posts that touch.
 use order::east_row;
-use order::later_is_below;
+use order::is_below_by;
 use order::later_row;
 use post::pattern::pair;
 use surface::Grid;
@@ -8,7 +8,7 @@ ghost use mathlib.Core.Path.{_≡_};
 ghost use Prim.Native.Nat.{_+_, _-_, _≤_, _<_};
 ghost use lib.ListN.{length, getD};
 ghost use Rattle.surface.specs.Lists.{listOf, stores};
-ghost use Rattle.surface.specs.Plot.{plotOf, posts, Valid};
+ghost use Rattle.surface.specs.Plot.{plotOf, posts, row, isOdd, Valid};
 ghost use Rattle.surface.specs.Patterns.{patternAt};
 ghost use Rattle.patterns.specs.Rows.{lowerIn, upperIn, RowOf, Blank, Ends, South, Head, Long, Wide};
 
@@ -44,26 +44,27 @@ fn copy_row(from: &[u8], n: usize, patterns: &mut [u8], at: usize)
     }
 }
 
-// The flags from the row that starts at `base` to the one below it, and along that one; below the bottom row is the virtual pit.
+// The flags from the row that starts at `base`, and is odd or not, to the one below it, and along that one; below the bottom row is the virtual pit.
 fn south_rows(
     heights: &[i32],
     grid: Grid,
     base: usize,
+    odd: bool,
     south: &mut [bool],
     fall: &mut [bool],
     rise: &mut [bool],
     under: &mut [bool],
 )
-    requires { ⌜ Valid (plotOf grid (now heights)) × RowOf (grid .rows) (grid .columns) base × Long (grid .columns) (now south) (now fall) (now rise) (now under) × Ends (grid .columns) (now south) (now fall) (now rise) (now under) ⌝ }
+    requires { ⌜ Valid (plotOf grid (now heights)) × RowOf (grid .rows) (grid .columns) base × (odd ≡ isOdd (row (grid .columns) base)) × Long (grid .columns) (now south) (now fall) (now rise) (now under) × Ends (grid .columns) (now south) (now fall) (now rise) (now under) ⌝ }
     ensures { λ _. ⌜ South (plotOf grid (now (heights .entry))) base (now (south .exit)) (now (fall .exit)) (now (rise .exit)) (now (under .exit)) ⌝ }
 {
     let columns = grid.columns;
     let next = base + columns;
     if next < heights.len() {
-        later_row(heights, grid, base, next, south, 1, columns);
-        later_row(heights, grid, base, next + 1, fall, 1, columns - 1);
-        later_row(heights, grid, base + 1, next, rise, 1, columns - 1);
-        east_row(heights, grid, next, under);
+        later_row(heights, grid, base, next, false, south, 1, columns);
+        later_row(heights, grid, base, next + 1, false, fall, 1, columns - 1);
+        later_row(heights, grid, base + 1, next, false, rise, 1, columns - 1);
+        east_row(heights, grid, next, !odd, under);
         return;
     }
     fill_row(south, 1, columns, true);
@@ -164,8 +165,8 @@ fn top_row(
     let columns = grid.columns;
     south[columns + 1] = true;
     under[columns] = true;
-    under[0] = !later_is_below(heights, grid, 0, columns);
-    east_row(heights, grid, 0, under);
+    under[0] = !is_below_by(heights, grid, columns, 0, false);
+    east_row(heights, grid, 0, false, under);
     upper_row(side, south, fall, rise, under, grid.highest, upper, width);
     under[0] = false;
     fall[columns] = true;
@@ -206,6 +207,7 @@ pub fn pattern_plot(heights: &[i32], grid: Grid, patterns: &mut [u8])
             heights,
             grid,
             base,
+            r % 2 == 1,
             &mut south,
             &mut fall,
             &mut rise,

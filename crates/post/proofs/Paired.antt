@@ -1,13 +1,17 @@
 -- A side and its corner where the post may stand on a border: u, the border of that side, v, that of the side after it.
 use Prim.Native.Nat.{ℕ}
-use mathlib.Core.Path.{_≡_, refl}
+use mathlib.Core.Path.{_≡_, refl, sym}
 use mathlib.Core.Bool.{Bool, true, false, cond, not, _&&_, _||_}
-use Rattle.surface.specs.Plot.{Plot, below}
+use Rattle.surface.specs.Plot.{Plot, drivenBefore, below}
 use Rattle.surface.specs.Flags.{pairBy}
 
 -- the same two posts, counted otherwise
 pub same : (pl : Plot) {p q p′ q′ : ℕ} → p ≡ p′ → q ≡ q′ → below pl p q ≡ below pl p′ q′
 same pl e f = rw (e, f)
+
+-- which of them is driven past first, given of the same two
+pub as-told : (columns : ℕ) {p q : ℕ} {tie : Bool} (p′ q′ : ℕ) → drivenBefore columns p′ q′ ≡ tie → p ≡ p′ → q ≡ q′ → tie ≡ drivenBefore columns p q
+as-told columns p′ q′ h e f = rw (e, f) (sym h)
 
 pub side-or : (u x y : Bool) → (u ≡ false → x ≡ y) → cond (not u) x true ≡ u || y
 side-or true x y f = refl

@@ -1,7 +1,7 @@
 -- Where a post stands: on which of the four borders, and which corners share an edge with it.
 use Prim.Native.Nat.{ℕ, _+_, _-_, _*_, _<_, _≤_}
 use mathlib.Core.Path.{_≡_}
-use mathlib.Core.Bool.{Bool, true, not, _&&_}
+use mathlib.Core.Bool.{Bool, true, false, not, _&&_}
 use Rattle.surface.specs.Edges.{top, bottom, left, right}
 use Rattle.post.specs.declared.border.Borders.{Borders}
 use Rattle.post.specs.declared.corner.Corners.{Corners}
@@ -33,3 +33,9 @@ pub record Neighbours (rows columns p : ℕ) (at : Borders) (joined : Corners) :
   pub southWest : joined .sw ≡ true → p + columns < rows * columns
   pub west : not (at .left) ≡ true → 1 ≤ p
   pub northWest : joined .nw ≡ true → columns + 1 ≤ p
+
+-- the cell d numbers before p: its four posts are there, and the first two of them stand in one row
+pub record Cell (rows columns p d : ℕ) : Type 0 where
+  pub from : d ≤ p
+  pub posts : p - d + columns + 1 < rows * columns
+  pub inner : right columns (p - d) ≡ false

@@ -2,14 +2,14 @@
 // carries the sign of the last member before it. The diagonals need not be known: comparisons of the posts tell the sign at a corner.
 use crate::border::Borders;
 use crate::border::borders_of;
-use order::earlier_is_below;
-use order::later_is_below;
+use order::is_below_by;
+use order::is_odd_row;
 use surface::Grid;
 ghost use mathlib.Core.Path.{_≡_};
 ghost use mathlib.Core.Bool.{true, cond};
 ghost use Prim.Native.Nat.{_+_, _-_, _≤_, _<_};
 ghost use Rattle.surface.specs.Lists.{one};
-ghost use Rattle.surface.specs.Plot.{plotOf, posts, below, Valid, PostOf};
+ghost use Rattle.surface.specs.Plot.{plotOf, posts, row, isOdd, drivenBefore, below, Valid, PostOf};
 ghost use Rattle.surface.specs.Flags.{signBy, pairBy, eastPair, southPair, northPair, westSign, westPair};
 ghost use Rattle.surface.specs.Patterns.{changeTable, patternAt};
 ghost use Rattle.post.specs.Corners.{bordersOf};
@@ -62,38 +62,47 @@ pub fn pair(side: bool, corner: bool, after: bool, highest: bool) -> u8
     side as u8 + 2 * sign(side, corner, after, highest)
 }
 
-// Of the posts `from` and from + d numbers before p, the earlier is below the later; true where the earlier is not there.
-fn back(heights: &[i32], grid: Grid, p: usize, from: usize, d: usize, there: bool) -> bool
-    requires { ⌜ Valid (plotOf grid (now heights)) × (there ≡ true → (p < posts (plotOf grid (now heights))) × (1 ≤ d) × (from + d ≤ p)) ⌝ }
+// Of the posts `from` and from + d numbers before p, the earlier is below the later, `tie` telling whether it is where their heights are equal; true where
+// the earlier is not there.
+fn back(
+    heights: &[i32],
+    grid: Grid,
+    p: usize,
+    from: usize,
+    d: usize,
+    tie: bool,
+    there: bool,
+) -> bool
+    requires { ⌜ Valid (plotOf grid (now heights)) × (there ≡ true → (p < posts (plotOf grid (now heights))) × (from + d ≤ p) × (tie ≡ drivenBefore (grid .columns) (p - from - d) (p - from))) ⌝ }
     ensures { λ r. ⌜ r ≡ cond there (below (plotOf grid (now (heights .entry))) (p - from - d) (p - from)) true ⌝ }
 {
     if there {
-        return earlier_is_below(heights, grid, p - from, p - from - d);
+        return is_below_by(heights, grid, p - from - d, p - from, tie);
     }
     true
 }
 
-// Post p is below the one d numbers before it; true where p is not there.
-fn ahead(heights: &[i32], grid: Grid, p: usize, d: usize, there: bool) -> bool
-    requires { ⌜ Valid (plotOf grid (now heights)) × (there ≡ true → (p < posts (plotOf grid (now heights))) × (1 ≤ d) × (d ≤ p)) ⌝ }
+// Post p is below the one d numbers before it, `tie` telling whether it is where their heights are equal; true where p is not there.
+fn ahead(heights: &[i32], grid: Grid, p: usize, d: usize, tie: bool, there: bool) -> bool
+    requires { ⌜ Valid (plotOf grid (now heights)) × (there ≡ true → (p < posts (plotOf grid (now heights))) × (d ≤ p) × (tie ≡ drivenBefore (grid .columns) p (p - d))) ⌝ }
     ensures { λ r. ⌜ r ≡ cond there (below (plotOf grid (now (heights .entry))) p (p - d)) true ⌝ }
 {
     if there {
-        return later_is_below(heights, grid, p - d, p);
+        return is_below_by(heights, grid, p, p - d, tie);
     }
     true
 }
 
-// The pair of E and SE of p, which stands at these borders.
-fn east_pair(heights: &[i32], grid: Grid, p: usize, at: Borders) -> u8
-    requires { ⌜ PostOf (plotOf grid (now heights)) p × (at ≡ bordersOf (grid .rows) (grid .columns) p) ⌝ }
+// The pair of E and SE of p, which stands at these borders, in an odd row or not. Between rows the lower row is below where heights are equal.
+fn east_pair(heights: &[i32], grid: Grid, p: usize, at: Borders, odd: bool) -> u8
+    requires { ⌜ PostOf (plotOf grid (now heights)) p × (at ≡ bordersOf (grid .rows) (grid .columns) p) × (odd ≡ isOdd (row (grid .columns) p)) ⌝ }
     ensures { λ r. ⌜ (r ≡ eastPair (plotOf grid (now (heights .entry))) p) × (r ≤ 3) ⌝ }
 {
     let across = p + grid.columns + 1;
     let there = !at.right & !at.bottom;
-    let e = ahead(heights, grid, p + 1, 1, !at.right);
-    let se = ahead(heights, grid, across, grid.columns + 1, there);
-    let after = ahead(heights, grid, across, 1, there);
+    let e = ahead(heights, grid, p + 1, 1, odd, !at.right);
+    let se = ahead(heights, grid, across, grid.columns + 1, false, there);
+    let after = ahead(heights, grid, across, 1, !odd, there);
     pair(e, se, !at.bottom & after, grid.highest)
 }
 
@@ -104,9 +113,16 @@ fn south_pair(heights: &[i32], grid: Grid, p: usize, at: Borders) -> u8
 {
     let across = p + grid.columns - 1;
     let there = !at.bottom & !at.left;
-    let s = ahead(heights, grid, p + grid.columns, grid.columns, !at.bottom);
-    let sw = ahead(heights, grid, across, grid.columns - 1, there);
-    let after = ahead(heights, grid, across, grid.columns, there);
+    let s = ahead(
+        heights,
+        grid,
+        p + grid.columns,
+        grid.columns,
+        false,
+        !at.bottom,
+    );
+    let sw = ahead(heights, grid, across, grid.columns - 1, false, there);
+    let after = ahead(heights, grid, across, grid.columns, false, there);
     pair(s, sw, !at.left & after, grid.highest)
 }
 
@@ -116,32 +132,39 @@ fn north_pair(heights: &[i32], grid: Grid, p: usize, at: Borders) -> u8
     ensures { λ r. ⌜ (r ≡ northPair (plotOf grid (now (heights .entry))) p) × (r ≤ 3) ⌝ }
 {
     let there = !at.top & !at.right;
-    let n = back(heights, grid, p, 0, grid.columns, !at.top);
-    let ne = back(heights, grid, p, 0, grid.columns - 1, there);
-    let after = back(heights, grid, p + 1, 0, grid.columns, there);
+    let n = back(heights, grid, p, 0, grid.columns, true, !at.top);
+    let ne = back(heights, grid, p, 0, grid.columns - 1, true, there);
+    let after = back(heights, grid, p + 1, 0, grid.columns, true, there);
     pair(n, ne, !at.right & after, grid.highest)
 }
 
 // The sign at W. The first post of all has no member there: the sign of S is carried.
-fn west_sign(heights: &[i32], grid: Grid, p: usize, at: Borders) -> bool
-    requires { ⌜ PostOf (plotOf grid (now heights)) p × (at ≡ bordersOf (grid .rows) (grid .columns) p) ⌝ }
+fn west_sign(heights: &[i32], grid: Grid, p: usize, at: Borders, odd: bool) -> bool
+    requires { ⌜ PostOf (plotOf grid (now heights)) p × (at ≡ bordersOf (grid .rows) (grid .columns) p) × (odd ≡ isOdd (row (grid .columns) p)) ⌝ }
     ensures { λ r. ⌜ r ≡ westSign (plotOf grid (now (heights .entry))) p ⌝ }
 {
     if at.top & at.left {
-        return ahead(heights, grid, p + grid.columns, grid.columns, !at.bottom);
+        return ahead(
+            heights,
+            grid,
+            p + grid.columns,
+            grid.columns,
+            false,
+            !at.bottom,
+        );
     }
-    back(heights, grid, p, 0, 1, !at.left)
+    back(heights, grid, p, 0, 1, !odd, !at.left)
 }
 
 // The pair of W and NW.
-fn west_pair(heights: &[i32], grid: Grid, p: usize, at: Borders) -> u8
-    requires { ⌜ PostOf (plotOf grid (now heights)) p × (at ≡ bordersOf (grid .rows) (grid .columns) p) ⌝ }
+fn west_pair(heights: &[i32], grid: Grid, p: usize, at: Borders, odd: bool) -> u8
+    requires { ⌜ PostOf (plotOf grid (now heights)) p × (at ≡ bordersOf (grid .rows) (grid .columns) p) × (odd ≡ isOdd (row (grid .columns) p)) ⌝ }
     ensures { λ r. ⌜ (r ≡ westPair (plotOf grid (now (heights .entry))) p) × (r ≤ 3) ⌝ }
 {
     let there = !at.left & !at.top;
-    let w = west_sign(heights, grid, p, at);
-    let nw = back(heights, grid, p, 0, grid.columns + 1, there);
-    let after = back(heights, grid, p, grid.columns, 1, there);
+    let w = west_sign(heights, grid, p, at, odd);
+    let nw = back(heights, grid, p, 0, grid.columns + 1, true, there);
+    let after = back(heights, grid, p, grid.columns, 1, odd, there);
     pair(w, nw, !at.top & after, grid.highest)
 }
 
@@ -151,9 +174,10 @@ pub fn pattern_at(heights: &[i32], grid: Grid, p: usize) -> u8
     ensures { λ r. ⌜ r ≡ patternAt (plotOf grid (now (heights .entry))) p ⌝ }
 {
     let at = borders_of(grid, p);
+    let odd = is_odd_row(grid, p);
     let north = north_pair(heights, grid, p, at);
-    let east = east_pair(heights, grid, p, at);
+    let east = east_pair(heights, grid, p, at, odd);
     let south = south_pair(heights, grid, p, at);
-    let west = west_pair(heights, grid, p, at);
+    let west = west_pair(heights, grid, p, at, odd);
     north + 4 * (east + 4 * south) + 64 * west
 }

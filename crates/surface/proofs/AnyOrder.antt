@@ -6,6 +6,7 @@ pub mod RingEdges
 pub mod Offsets
 pub mod RingOnce
 pub mod Order
+pub mod Lex
 pub mod Lowest
 pub mod CellFlags
 pub mod Runs

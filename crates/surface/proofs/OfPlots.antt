@@ -1,4 +1,5 @@
 -- The height order, diagonals and picks of a plot are such as the laws over any order ask for.
+pub mod Driven
 pub mod HeightOrder
 pub mod Instance
 pub mod Patterns

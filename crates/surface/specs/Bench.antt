@@ -73,8 +73,8 @@ abbrev pub refused : ℕ → Entries
 refused code = record { code = code; place = 0; count = 0 }
 
 pub record Starred : Type 0 where
-  -- flat 2 by 2: post 3 a peak, the rest ordinary; counts 1, 1, 0
-  pub flatMarks : surveyMarks flat (marks 4) ≡ 0 ∷ 0 ∷ 0 ∷ 1 ∷ []
+  -- flat 2 by 2: post 2 a peak, the rest ordinary; counts 1, 1, 0
+  pub flatMarks : surveyMarks flat (marks 4) ≡ 0 ∷ 0 ∷ 1 ∷ 0 ∷ []
   pub flatCounts : surveyAnswer flat (marks 4) ≡ counted 1 1 0
   -- crossed: posts 0 and 3 peaks, post 2 a saddle of multiplicity 1; counts 2, 1, 1
   pub crossedMarks : surveyMarks crossed (marks 4) ≡ 1 ∷ 0 ∷ 3 ∷ 1 ∷ []

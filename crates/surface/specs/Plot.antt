@@ -81,16 +81,6 @@ virtualPit = 65535
 abbrev pub Vertex : ℕ → ℕ → Type 0
 Vertex n p = (p < n) ⊎ (p ≡ virtualPit)
 
--- the height order: p is below q when its height is less, or the heights are equal and p's number is less; the virtual pit is below every post
-unfoldable pub below : Plot → ℕ → ℕ → Bool
-below pl p q =
-    not (eqb q virtualPit) && (eqb p virtualPit || (ltZ (height pl p) (height pl q) || (not (ltZ (height pl q) (height pl p)) && ltb p q)))
-
--- two posts have equal heights, so that the tie rule orders them; the virtual pit has no height
-abbrev pub tied : Plot → ℕ → ℕ → Bool
-tied pl p q =
-    not (eqb p virtualPit || eqb q virtualPit) && not (ltZ (height pl p) (height pl q) || ltZ (height pl q) (height pl p))
-
 -- an order the other way round: what is stated of "below" in one holds of "above" in the other
 abbrev pub reversed : (ℕ → ℕ → Bool) → ℕ → ℕ → Bool
 reversed lower p q = lower q p
@@ -98,6 +88,28 @@ reversed lower p q = lower q p
 -- an order, or the reversed one
 abbrev pub directed : Bool → (ℕ → ℕ → Bool) → ℕ → ℕ → Bool
 directed upward lower = cond upward (reversed lower) lower
+
+-- equal heights are ordered as driven, to and fro by row: p is driven past before q when its row is lower, or within a row when its column is lower, in an
+-- odd row when its column is higher
+abbrev pub isOdd : ℕ → Bool
+isOdd n = eqb (n % 2) 1
+
+unfoldable pub drivenBefore : ℕ → ℕ → ℕ → Bool
+drivenBefore columns p q =
+    let r = row columns p in
+    let s = row columns q in
+    ltb r s || (not (ltb s r) && directed (isOdd r) ltb (column columns p) (column columns q))
+
+-- the height order: p is below q when its height is less, or the heights are equal and p is driven past before q; the virtual pit is below every post
+unfoldable pub below : Plot → ℕ → ℕ → Bool
+below pl p q =
+    not (eqb q virtualPit)
+    && (eqb p virtualPit || (ltZ (height pl p) (height pl q) || (not (ltZ (height pl q) (height pl p)) && drivenBefore pl.columns p q)))
+
+-- two posts have equal heights, so that the tie rule orders them; the virtual pit has no height
+abbrev pub tied : Plot → ℕ → ℕ → Bool
+tied pl p q =
+    not (eqb p virtualPit || eqb q virtualPit) && not (ltZ (height pl p) (height pl q) || ltZ (height pl q) (height pl p))
 
 -- the sides that a plot may have
 pub record Sides (rows columns : ℕ) : Type 0 where

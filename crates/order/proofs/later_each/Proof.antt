@@ -1,7 +1,7 @@
 -- The loop's invariant: i flags were stored.
 use Prim.Native.Nat.{_+_, _-_, _≤_}
 use native.Mathlib.Omega.{arith}
-use mathlib.Core.Path.{_≡_, refl, _∙_}
+use mathlib.Core.Path.{_≡_, refl, sym, _∙_}
 use lib.ListN.{length, length-set}
 use Rattle.surface.specs.Lists.{stores}
 use Rattle.surface.specs.Plot.{plotOf, below}
@@ -10,24 +10,26 @@ use Rattle.order.proofs.later_each.Statement.{statement}
 use Rattle.order.proofs.later_each.Tie as tie
 
 abbrev Inv-loop : tie.InvT-loop
-Inv-loop heights grid p q flags₀ at n i₀ flags i =
+Inv-loop heights grid p q tie flags₀ at n i₀ flags i =
     (i ≤ n) × (length flags ≡ length flags₀) × (flags ≡ stores (λ k. below (plotOf grid heights) (q + (k - at)) (p + (k - at))) at i flags₀)
 
 abbrev μ-loop : tie.MeasureT-loop
-μ-loop heights grid p q flags₀ at n i₀ flags i = n - i
+μ-loop heights grid p q tie flags₀ at n i₀ flags i = n - i
 
 loop-holds : tie.Need-loop-holds Inv-loop μ-loop
 unfolding stores
 loop-holds c = (omega arith, refl, refl)
 
-add-later-is-below : tie.Need-add-later-is-below Inv-loop μ-loop
-add-later-is-below c = omega (arith, c .before .before .before .pre .0 .sides)
+add-is-below-by : tie.Need-add-is-below-by Inv-loop μ-loop
+add-is-below-by c = omega (arith, c .before .before .before .pre .0 .sides)
 
-add-later-is-below-2 : tie.Need-add-later-is-below-2 Inv-loop μ-loop
-add-later-is-below-2 c = omega (arith, c .before .before .before .pre .0 .sides)
+add-is-below-by-2 : tie.Need-add-is-below-by-2 Inv-loop μ-loop
+add-is-below-by-2 c = omega (arith, c .before .before .before .pre .0 .sides)
 
-later-is-below-requires : tie.Need-later-is-below-requires Inv-loop μ-loop
-later-is-below-requires c κs = (record { valid = c .before .before .before .pre .0; post = omega arith }, omega arith)
+is-below-by-requires : tie.Need-is-below-by-requires Inv-loop μ-loop
+is-below-by-requires c κs =
+    let pre = c .before .before .before .pre in
+    (pre .0, omega arith, omega arith, sym (pre .3 .told (c .before .loop .i) (omega arith)))
 
 loop-again : tie.Need-loop-again Inv-loop μ-loop
 loop-again c =
@@ -36,7 +38,7 @@ loop-again c =
     let e : a .at + l .i - a .at ≡ l .i = omega arith in (
       omega arith,
       length-set (l .flags) _ _ ∙ l .inv .1,
-      store-next _ (a .at) (l .i) (l .i + 1) (l .flags) (a .flags .now) (a .at + l .i) _ (l .inv .2) refl refl (rw e (c .later-is-below .ensures)),
+      store-next _ (a .at) (l .i) (l .i + 1) (l .flags) (a .flags .now) (a .at + l .i) _ (l .inv .2) refl refl (rw e (c .is-below-by .ensures)),
     )
 
 same-length : tie.Need-same-length Inv-loop μ-loop
@@ -49,4 +51,4 @@ returns c =
     rw e at (l .inv .2)
 
 pub later-each-spec : {M : Type 1} → statement M
-later-each-spec = tie.close (tie.spec Inv-loop μ-loop loop-holds add-later-is-below add-later-is-below-2 later-is-below-requires (λ c. omega arith) (λ c. omega arith) (λ c. omega arith) (λ c. omega arith) loop-again same-length returns)
+later-each-spec = tie.close (tie.spec Inv-loop μ-loop loop-holds add-is-below-by add-is-below-by-2 is-below-by-requires (λ c. omega arith) (λ c. omega arith) (λ c. omega arith) (λ c. omega arith) loop-again same-length returns)

@@ -25,4 +25,4 @@ returns : tie.Need-returns
 returns c = c .before .before .put-block .ensures ∙ stored _ _ _ _ _ _ (c .before .before .before .before .later-block .ensures)
 
 pub later-flags-spec : {M : Type 1} → statement M
-later-flags-spec = tie.close (tie.spec (λ c κs. let pre = c .before .pre in (pre .0, pre .1, pre .2)) (λ c κs. omega (arith, c .before .before .before .pre .3)) (search needs) returns)
+later-flags-spec = tie.close (tie.spec (λ c κs. let pre = c .before .pre in (pre .0, pre .1, pre .2, pre .3)) (λ c κs. omega (arith, c .before .before .before .pre .4)) (search needs) returns)

@@ -9,6 +9,7 @@ use borrow.Author.Needs.{needs}
 use Rattle.surface.specs.Lists.{stores}
 use Rattle.surface.specs.Plot.{Plot, plotOf, below}
 use Rattle.surface.proofs.General.Stores.{stores-join, stores-over, stores-same}
+use Rattle.order.specs.Ties.{Drives}
 use Rattle.order.proofs.later_row.Statement.{statement}
 use Rattle.order.proofs.later_row.Tie as tie
 
@@ -22,12 +23,21 @@ part pl p q at i l =
     let f : p + i + (at + i + k - (at + i)) ≡ p + (at + i + k - at) = omega arith in
     rw (e, f))
 
+drives-part : {columns : ℕ} {tie : Bool} {p q n : ℕ} → Drives columns tie p q n → (i m : ℕ) → i + m ≤ n → Drives columns tie (p + i) (q + i) m
+drives-part {columns} {tie} {p} {q} d i m h =
+    record {
+      told = λ k l.
+          let e : q + i + k ≡ q + (i + k) = omega arith in
+          let f : p + i + k ≡ p + (i + k) = omega arith in
+          rw (e, f) (d .told (i + k) (omega arith));
+    }
+
 abbrev Inv-loop : tie.InvT-loop
-Inv-loop heights grid p q flags₀ at n i₀ flags i =
+Inv-loop heights grid p q tie flags₀ at n i₀ flags i =
     (i ≤ n) × (length flags ≡ length flags₀) × (flags ≡ stores (λ k. below (plotOf grid heights) (q + (k - at)) (p + (k - at))) at i flags₀)
 
 abbrev μ-loop : tie.MeasureT-loop
-μ-loop heights grid p q flags₀ at n i₀ flags i = n - i
+μ-loop heights grid p q tie flags₀ at n i₀ flags i = n - i
 
 later-each-requires : tie.Need-later-each-requires Inv-loop μ-loop
 later-each-requires c κs = c .before .before .before .pre
@@ -40,7 +50,7 @@ unfolding stores
 loop-holds c = (omega arith, refl, refl)
 
 later-flags-requires : tie.Need-later-flags-requires Inv-loop μ-loop
-later-flags-requires c κs = let pre = c .before .before .before .before .before .pre in (pre .0, omega (arith, pre), omega (arith, pre), omega (arith, pre, c .before .before .loop .inv .1))
+later-flags-requires c κs = let pre = c .before .before .before .before .before .pre in (pre .0, omega (arith, pre), omega (arith, pre), drives-part (pre .3) _ 16 (omega arith), omega (arith, pre, c .before .before .loop .inv .1))
 
 loop-again : tie.Need-loop-again Inv-loop μ-loop
 loop-again c =
@@ -50,7 +60,7 @@ loop-again c =
     (omega arith, search needs, stores-join _ (a .at) (l .i) (a .at + l .i) 16 (l .i + 16) (a .flags .now) (l .flags) _ (l .inv .2) new refl refl)
 
 later-flags-requires-2 : tie.Need-later-flags-requires-2 Inv-loop μ-loop
-later-flags-requires-2 c κs = let pre = c .before .before .before .before .before .pre in (pre .0, omega (arith, pre), omega (arith, pre), omega (arith, pre, c .before .before .loop .inv .1))
+later-flags-requires-2 c κs = let pre = c .before .before .before .before .before .pre in (pre .0, omega (arith, pre), omega (arith, pre), drives-part (pre .3) _ 16 (omega arith), omega (arith, pre, c .before .before .loop .inv .1))
 
 returns-2 : tie.Need-returns-2 Inv-loop μ-loop
 returns-2 c =

@@ -5,6 +5,7 @@ use Rattle.surface.specs.Refusals.{partsVerdict}
 use Rattle.surface.specs.Calls.{plotSaid, partsAnswer}
 use Rattle.surface.specs.declared.Answer.{Answer}
 use Rattle.parts.specs.Filled.{ForParts}
+use Rattle.parts.proofs.Filled.{dales-long, hills-long}
 use Rattle.parts.proofs.Descents.{dales-end, hills-end, dales-named, hills-named}
 use Rattle.surface.proofs.OfCalls.Verdicts.{code}
 use Rattle.surface.proofs.OfCalls.Accepted.{plain, plot-ruled}
@@ -52,10 +53,18 @@ fill-nexts-requires : tie.Need-fill-nexts-requires
 fill-nexts-requires c κs = lent (c .before .before .before)
 
 shorten-requires : tie.Need-shorten-requires
-shorten-requires c κs = let f = c .before .before .before .before .before in dales-end (lent (accepted f)) (f .fill-nexts .ensures)
+shorten-requires c κs =
+    let f = c .before .before .before .before .before in
+    let k = lent (accepted f) in
+    let w = f .fill-nexts .ensures in
+    (dales-end k w, k .valid .sides, dales-long w ∙ k .dalesSize)
 
 shorten-requires-2 : tie.Need-shorten-requires-2
-shorten-requires-2 c κs = let f = c .before .before .before .before .before .before .before .before .before in hills-end (lent (accepted f)) (f .fill-nexts .ensures)
+shorten-requires-2 c κs =
+    let f = c .before .before .before .before .before .before .before .before .before in
+    let k = lent (accepted f) in
+    let w = f .fill-nexts .ensures in
+    (hills-end k w, k .valid .sides, hills-long w ∙ k .hillsSize)
 
 returns-2 : tie.Need-returns-2
 unfolding partsAnswer

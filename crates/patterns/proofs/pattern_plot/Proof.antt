@@ -2,12 +2,13 @@
 use Prim.Native.Nat.{ℕ, zero, suc, _+_, _-_, _*_, _<_}
 use native.Mathlib.Omega.{arith}
 use native.Mathlib.Nat.{add-mul, one-mul, zero-mul, mul-le-mul-right}
-use mathlib.Core.Path.{_≡_, refl, _∙_}
+use mathlib.Core.Path.{_≡_, refl, sym, ap, _∙_}
 use mathlib.Core.Bool.{Bool, true, false}
 use lib.ListN.{getD, replicate}
 use Rattle.surface.specs.Lists.{stores}
-use Rattle.surface.specs.Plot.{plotOf}
+use Rattle.surface.specs.Plot.{plotOf, isOdd}
 use Rattle.surface.proofs.General.Stores.{stores-join, stores-all}
+use Rattle.surface.proofs.AnyOrder.Grid.{row-is}
 use Rattle.patterns.specs.Rows.{RowOf}
 use Rattle.patterns.proofs.Told.{row-of}
 use Rattle.patterns.proofs.Steps.{State, head-next, row-stored}
@@ -95,6 +96,7 @@ south-rows-requires c κs =
     let v = i .before .loop .inv in (
       f,
       row i,
+      ap isOdd (sym (row-is (f .sides) (i .before .loop .r) 0 (omega (arith, f .sides)) (omega arith))),
       record {
         southLong = omega (arith, f .sides, v .southLong);
         fallLong = omega (arith, f .sides, v .fallLong);
@@ -111,10 +113,10 @@ pattern-row-requires c κs =
     let s = c .before .before .before .before .before .before .before .before .before .before .before .south-rows in (
       record {
         sideLong = omega (arith, v .sideLong, v .narrow);
-        southLong = omega (arith, s .kept .1 .1 .1 .0, v .southLong, v .narrow);
-        fallLong = omega (arith, s .kept .1 .1 .1 .1 .0, v .fallLong, v .narrow);
-        riseLong = omega (arith, s .kept .1 .1 .1 .1 .1 .0, v .riseLong, v .narrow);
-        underLong = omega (arith, s .kept .1 .1 .1 .1 .1 .1 .0, v .underLong, v .narrow);
+        southLong = omega (arith, s .kept .1 .1 .1 .1 .0, v .southLong, v .narrow);
+        fallLong = omega (arith, s .kept .1 .1 .1 .1 .1 .0, v .fallLong, v .narrow);
+        riseLong = omega (arith, s .kept .1 .1 .1 .1 .1 .1 .0, v .riseLong, v .narrow);
+        underLong = omega (arith, s .kept .1 .1 .1 .1 .1 .1 .1 .0, v .underLong, v .narrow);
       },
       omega (arith, v .upperLong, v .narrow),
       omega (arith, v .patternLong, v .narrow),
@@ -149,11 +151,11 @@ loop-again c =
       wide = v .wide;
       narrow = v .narrow;
       patternsLong = c .before .before .copy-row .kept .1 .1 .0 ∙ v .patternsLong;
-      sideLong = s .kept .1 .1 .1 .1 .1 .1 .0 ∙ v .underLong;
-      southLong = s .kept .1 .1 .1 .0 ∙ v .southLong;
-      fallLong = s .kept .1 .1 .1 .1 .0 ∙ v .fallLong;
-      riseLong = s .kept .1 .1 .1 .1 .1 .0 ∙ v .riseLong;
-      underLong = s .kept .1 .1 .1 .1 .1 .1 .0 ∙ v .underLong;
+      sideLong = s .kept .1 .1 .1 .1 .1 .1 .1 .0 ∙ v .underLong;
+      southLong = s .kept .1 .1 .1 .1 .0 ∙ v .southLong;
+      fallLong = s .kept .1 .1 .1 .1 .1 .0 ∙ v .fallLong;
+      riseLong = s .kept .1 .1 .1 .1 .1 .1 .0 ∙ v .riseLong;
+      underLong = s .kept .1 .1 .1 .1 .1 .1 .1 .0 ∙ v .underLong;
       upperLong = p .kept .0 ∙ v .upperLong;
       patternLong = p .kept .1 .1 .1 .1 .1 .1 .1 .0 ∙ v .patternLong;
       head =

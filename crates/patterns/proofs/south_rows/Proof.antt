@@ -1,11 +1,38 @@
 -- Four rows of comparisons, or the virtual pit.
-use Prim.Native.Nat.{_+_, _*_, _≤_, _<_}
+use Prim.Native.Nat.{ℕ, _+_, _-_, _*_, _≤_, _<_}
 use native.Mathlib.Omega.{arith}
+use mathlib.Core.Path.{_≡_, sym, ap, _∙_}
+use mathlib.Core.Bool.{false, not}
+use Rattle.surface.specs.Plot.{column, Sides}
+use Rattle.surface.proofs.AnyOrder.Grid.{column-is, column-south, left-false}
+use Rattle.surface.proofs.OfPlots.Driven.{far-told, corner-told, odd-south}
+use Rattle.order.specs.Ties.{Drives}
+use Rattle.patterns.specs.Rows.{RowOf}
 use Rattle.patterns.proofs.Told.{row-below}
 use Rattle.patterns.proofs.Stored.{south-stored, south-pit}
 use borrow.Author.Needs.{needs}
 use Rattle.patterns.proofs.south_rows.Statement.{statement}
 use Rattle.patterns.proofs.south_rows.Tie as tie
+
+-- the row below is driven past after this one
+module _ {rows columns : ℕ} (s : Sides rows columns) where
+  south-drives : (base : ℕ) → Drives columns false base (base + columns) columns
+  south-drives base = record { told = λ k h. far-told s (base + k) (base + columns + k) (omega arith) .second }
+
+  fall-drives : (base : ℕ) → Drives columns false base (base + columns + 1) (columns - 1)
+  fall-drives base = record { told = λ k h. far-told s (base + k) (base + columns + 1 + k) (omega arith) .second }
+
+  rise-drives : {base : ℕ} → RowOf rows columns base → Drives columns false (base + 1) (base + columns) (columns - 1)
+  rise-drives {base} at =
+      record {
+        told = λ k h.
+            let e : column columns (base + 1 + k) ≡ k + 1 = column-is s (at .r) (k + 1) (omega arith) (omega (arith, at .start)) in
+            corner-told s (base + 1 + k) (base + columns + k) (left-false s (base + 1 + k) .1 (omega arith)) (omega arith) .second;
+      }
+
+  -- and starts where a row does
+  next-row : {base : ℕ} → RowOf rows columns base → column columns (base + columns) ≡ 0
+  next-row {base} at = column-south s base ∙ column-is s (at .r) 0 (omega arith) (omega (arith, at .start))
 
 -- where there is a row below, it is whole
 below : (c : tie.Then1)
@@ -26,7 +53,7 @@ later-row-requires c κs =
     let start = c .before .before .before .before .before .before in
     let b = below (c .before) in
     let s = start .pre .0 .sides in
-    (start .pre .0, omega (arith, s), omega (arith, b, s), omega (arith, start .pre .2, s))
+    (start .pre .0, omega (arith, s), omega (arith, b, s), south-drives s _, omega (arith, start .pre .3, s))
 
 add-later-row : tie.Need-add-later-row
 add-later-row c = omega (arith, c .before .before .before .before .before .before .before .before .before .pre .0 .sides, c .before .before .before .before .before .before .before .before .before .pre .1)
@@ -39,7 +66,7 @@ later-row-requires-2 c κs =
     let start = c .before .before .before .before .before .before .before .before .before .before in
     let b = below (c .before .before .before .before .before) in
     let s = start .pre .0 .sides in
-    (start .pre .0, omega (arith, s), omega (arith, b, s), omega (arith, start .pre .2, s))
+    (start .pre .0, omega (arith, s), omega (arith, b, s), fall-drives s _, omega (arith, start .pre .3, s))
 
 add-later-row-2 : tie.Need-add-later-row-2
 add-later-row-2 c = omega (arith, c .before .before .before .before .before .before .before .before .before .before .before .before .before .pre .0 .sides, c .before .before .before .before .before .before .before .before .before .before .before .before .before .pre .1)
@@ -52,40 +79,41 @@ later-row-requires-3 c κs =
     let start = c .before .before .before .before .before .before .before .before .before .before .before .before .before .before in
     let b = below (c .before .before .before .before .before .before .before .before .before) in
     let s = start .pre .0 .sides in
-    (start .pre .0, omega (arith, s), omega (arith, b, s), omega (arith, start .pre .2, s))
+    (start .pre .0, omega (arith, s), omega (arith, b, s), rise-drives s (start .pre .1), omega (arith, start .pre .3, s))
 
 east-row-requires : tie.Need-east-row-requires
 east-row-requires c κs =
     let start = c .before .before .before .before .before .before .before .before .before .before .before .before .before .before .before .before .before .before in
-    (start .pre .0, below (c .before .before .before .before .before .before .before .before .before .before .before .before .before) .0, omega (arith, start .pre .2 .underLong))
+    let s = start .pre .0 .sides in
+    (start .pre .0, next-row s (start .pre .1), ap not (start .pre .2) ∙ sym (odd-south s (start .args .base)), below (c .before .before .before .before .before .before .before .before .before .before .before .before .before) .0, omega (arith, start .pre .3 .underLong))
 
 returns : tie.Need-returns
 returns c =
     let pre = c .before .before .before .before .before .before .before .before .before .before .before .before .before .before .before .before .before .before .before .before .before .pre in
-    south-stored (pre .0) (pre .1) (pre .2) (pre .3) (below (c .before .before .before .before .before .before .before .before .before .before .before .before .before .before .before .before) .1) (c .before .before .before .before .before .before .before .before .before .before .before .before .before .before .later-row .ensures) (c .before .before .before .before .before .before .before .before .before .before .later-row2 .ensures) (c .before .before .before .before .before .before .later-row3 .ensures) (c .before .before .east-row .ensures)
+    south-stored (pre .0) (pre .1) (pre .3) (pre .4) (below (c .before .before .before .before .before .before .before .before .before .before .before .before .before .before .before .before) .1) (c .before .before .before .before .before .before .before .before .before .before .before .before .before .before .later-row .ensures) (c .before .before .before .before .before .before .before .before .before .before .later-row2 .ensures) (c .before .before .before .before .before .before .later-row3 .ensures) (c .before .before .east-row .ensures)
 
 fill-row-requires : tie.Need-fill-row-requires
-fill-row-requires c κs = let pre = c .before .before .before .before .before .before .pre in omega (arith, pre .2 .southLong, pre .0 .sides .wide)
+fill-row-requires c κs = let pre = c .before .before .before .before .before .before .pre in omega (arith, pre .3 .southLong, pre .0 .sides .wide)
 
 sub-fill-row : tie.Need-sub-fill-row
 sub-fill-row c = omega (arith, c .before .before .before .before .before .before .before .before .before .before .pre .0 .sides)
 
 fill-row-requires-2 : tie.Need-fill-row-requires-2
-fill-row-requires-2 c κs = let pre = c .before .before .before .before .before .before .before .before .before .before .pre in omega (arith, pre .2 .fallLong, pre .0 .sides .wide)
+fill-row-requires-2 c κs = let pre = c .before .before .before .before .before .before .before .before .before .before .pre in omega (arith, pre .3 .fallLong, pre .0 .sides .wide)
 
 sub-fill-row-2 : tie.Need-sub-fill-row-2
 sub-fill-row-2 c = omega (arith, c .before .before .before .before .before .before .before .before .before .before .before .before .before .before .pre .0 .sides)
 
 fill-row-requires-3 : tie.Need-fill-row-requires-3
-fill-row-requires-3 c κs = let pre = c .before .before .before .before .before .before .before .before .before .before .before .before .before .before .pre in omega (arith, pre .2 .riseLong, pre .0 .sides .wide)
+fill-row-requires-3 c κs = let pre = c .before .before .before .before .before .before .before .before .before .before .before .before .before .before .pre in omega (arith, pre .3 .riseLong, pre .0 .sides .wide)
 
 fill-row-requires-4 : tie.Need-fill-row-requires-4
-fill-row-requires-4 c κs = let pre = c .before .before .before .before .before .before .before .before .before .before .before .before .before .before .before .before .before .before .pre in omega (arith, pre .2 .underLong, pre .0 .sides .wide)
+fill-row-requires-4 c κs = let pre = c .before .before .before .before .before .before .before .before .before .before .before .before .before .before .before .before .before .before .pre in omega (arith, pre .3 .underLong, pre .0 .sides .wide)
 
 returns-2 : tie.Need-returns-2
 returns-2 c =
     let pre = c .before .before .before .before .before .before .before .before .before .before .before .before .before .before .before .before .before .before .before .before .before .pre in
-    south-pit (pre .0) (pre .1) (pre .2) (pre .3) (omega (arith, pre .0 .size, c .before .before .before .before .before .before .before .before .before .before .before .before .before .before .before .before .if1 .left)) (c .before .before .before .before .before .before .before .before .before .before .before .before .before .before .fill-row .ensures) (c .before .before .before .before .before .before .before .before .before .before .fill-row2 .ensures) (c .before .before .before .before .before .before .fill-row3 .ensures) (c .before .before .fill-row4 .ensures)
+    south-pit (pre .0) (pre .1) (pre .3) (pre .4) (omega (arith, pre .0 .size, c .before .before .before .before .before .before .before .before .before .before .before .before .before .before .before .before .if1 .left)) (c .before .before .before .before .before .before .before .before .before .before .before .before .before .before .fill-row .ensures) (c .before .before .before .before .before .before .before .before .before .before .fill-row2 .ensures) (c .before .before .before .before .before .before .fill-row3 .ensures) (c .before .before .fill-row4 .ensures)
 
 pub south-rows-spec : {M : Type 1} → statement M
 south-rows-spec =

@@ -24,6 +24,10 @@ pub or-right : (a b : Bool) → a || b ≡ false → b ≡ false
 or-right true b h = absurd (true≢false h)
 or-right false b h = h
 
+pub not-not : (x : Bool) → not (not x) ≡ x
+not-not true = refl
+not-not false = refl
+
 pub true-T : {b : Bool} → b ≡ true → T b
 true-T e = rw e tt
 

@@ -1,7 +1,7 @@
 -- Example sheets, and example plots by rule 2, by computation.
 use mathlib.Core.Path.{refl}
 use Rattle.surface.specs.Lists.{listOf, any, all, takeWhile, lastOr, count, total, firstNot}
-use Rattle.surface.specs.Plot.{virtualPit, below}
+use Rattle.surface.specs.Plot.{virtualPit, drivenBefore, below}
 use Rattle.surface.specs.Edges.{lowest, lowestOr, throughLowest, members, places, ring, ringOf, runs, runsFrom}
 use Rattle.surface.specs.Marks.{markFor, mark, markAt, marksOf, peaks, pits, saddles}
 use Rattle.surface.specs.SurveyFile.{wordAt, bytesOf}
@@ -11,7 +11,7 @@ use Rattle.surface.specs.Calls.{sheetSays, settingsAnswer, settingsName,
 use Rattle.surface.specs.Bench.{ExampleSheets}
 
 pub example-sheets : ExampleSheets
-unfolding listOf any all takeWhile lastOr count total firstNot virtualPit below lowest lowestOr throughLowest members places ring runs runsFrom markFor mark markAt marksOf ringOf peaks pits saddles wordAt bytesOf entriesIn entriesOf extent isBadSheet areEntries hasBadEntry valueOf ruleIn nameIn nameBytes verdict sheetVerdict settingsVerdict surveyVerdict sheetSays settingsAnswer settingsName surveyAnswer surveyMarks
+unfolding listOf any all takeWhile lastOr count total firstNot virtualPit drivenBefore below lowest lowestOr throughLowest members places ring runs runsFrom markFor mark markAt marksOf ringOf peaks pits saddles wordAt bytesOf entriesIn entriesOf extent isBadSheet areEntries hasBadEntry valueOf ruleIn nameIn nameBytes verdict sheetVerdict settingsVerdict surveyVerdict sheetSays settingsAnswer settingsName surveyAnswer surveyMarks
 example-sheets =
     record {
       none = refl;

@@ -2,7 +2,7 @@
 use mathlib.Core.Path.{refl}
 use mathlib.Core.List.{flatten}
 use Rattle.surface.specs.Lists.{listOf, filter, any, all, takeWhile, lastOr, count, total, firstNot}
-use Rattle.surface.specs.Plot.{virtualPit, below}
+use Rattle.surface.specs.Plot.{virtualPit, drivenBefore, below}
 use Rattle.surface.specs.Edges.{lowest, lowestOr, throughLowest, members, places, ring, ringOf, runs, runsFrom}
 use Rattle.surface.specs.Marks.{markFor, mark, markAt, marksOf, peaks, pits, saddles}
 use Rattle.surface.specs.Lines.{isEnd, next, walk, line}
@@ -14,5 +14,5 @@ use Rattle.surface.specs.Calls.{sheetSays, readAnswer, readHeights}
 use Rattle.surface.specs.Lister.{digits, decimal, fields, textLine, endName, headLine, lineText, saddleLines, postLines, plotText, fileListing, listing, printed, StarListing}
 
 pub star-listing : StarListing
-unfolding listOf filter any all takeWhile lastOr count total firstNot virtualPit below lowest lowestOr throughLowest members places ring runs runsFrom markFor mark markAt marksOf ringOf peaks pits saddles isEnd next walk line wordAt signed unsigned bytesOf statedCount tenthsOf roundTiesToEven rounded heightsIn filedHeights fileOf entriesIn entriesOf extent isBadSheet areEntries hasBadEntry valueOf ruleIn nameIn verdict sheetVerdict sheetSays readVerdict readAnswer readHeights flatten digits decimal fields textLine endName headLine lineText saddleLines postLines plotText fileListing listing printed
+unfolding listOf filter any all takeWhile lastOr count total firstNot virtualPit drivenBefore below lowest lowestOr throughLowest members places ring runs runsFrom markFor mark markAt marksOf ringOf peaks pits saddles isEnd next walk line wordAt signed unsigned bytesOf statedCount tenthsOf roundTiesToEven rounded heightsIn filedHeights fileOf entriesIn entriesOf extent isBadSheet areEntries hasBadEntry valueOf ruleIn nameIn verdict sheetVerdict sheetSays readVerdict readAnswer readHeights flatten digits decimal fields textLine endName headLine lineText saddleLines postLines plotText fileListing listing printed
 star-listing = refl

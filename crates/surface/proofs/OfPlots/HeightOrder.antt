@@ -1,15 +1,16 @@
 -- The height order of a plot is a strict total order in which the virtual pit is lowest.
-use Prim.Native.Nat.{ℕ, _<_}
+use Prim.Native.Nat.{ℕ}
 use native.Mathlib.Omega.{arith}
 use mathlib.Core.Path.{_≡_, refl, sym, _∙_, ap}
-use mathlib.Core.Logic.{_⊎_, ⊎-elim, inl, inr}
 use mathlib.Core.Bool.{Bool, true, false, not, _&&_, _||_, true≢false, or-true}
 use lib.Dec.{ltb, eqb}
 use lib.IntN.{ℤ, pos, negsuc}
 use lib.Signed.{ltZ}
 use borrow.Author.Tests.{ltb-true, ltb-false, lt-ltb, le-ltb, eqb-true, eq-eqb, ne-eqb}
-use Rattle.surface.specs.Plot.{Plot, height, virtualPit, below, tied}
+use Rattle.surface.specs.Plot.{Plot, height, virtualPit, drivenBefore, below, tied}
 use Rattle.surface.proofs.AnyOrder.Order.{StrictTotal}
+use Rattle.surface.proofs.AnyOrder.Lex.{Linear, strict-ties, lex, lex-strict}
+use Rattle.surface.proofs.OfPlots.Driven.{driven-strict}
 
 -- whole numbers
 pub ltZ-irrefl : (a : ℤ) → ltZ a a ≡ false
@@ -39,69 +40,21 @@ ltZ-asym a b h = go (ltZ b a) refl
     go true k = sym (ltZ-trans a b a h k) ∙ ltZ-irrefl a
     go false k = refl
 
-pub ltb-other : (p q : ℕ) → (p ≡ q → ⊥) → ltb q p ≡ not (ltb p q)
-ltb-other p q h = go (ltb p q) refl
-  where
-    go : (t : Bool) → ltb p q ≡ t → ltb q p ≡ not t
-    go true k = le-ltb q p (omega (arith, ltb-true p q k))
-    go false k = lt-ltb q p (omega (arith, ltb-false p q k, h))
+ltZ-linear : Linear ltZ
+ltZ-linear = record { irrefl = ltZ-irrefl; trans = ltZ-trans; level = ltZ-level }
 
--- posts by height, then by number
+-- posts by height, then as driven
 module _ (pl : Plot) where
-  lex : ℕ → ℕ → Bool
-  lex p q = ltZ (height pl p) (height pl q) || (not (ltZ (height pl q) (height pl p)) && ltb p q)
+  byHeight : ℕ → ℕ → Bool
+  byHeight = lex ltZ (height pl) (drivenBefore pl.columns)
 
-  lex-cases : (p q : ℕ) → lex p q ≡ true → (ltZ (height pl p) (height pl q) ≡ true) ⊎ ((height pl p ≡ height pl q) × (p < q))
-  unfolding lex
-  lex-cases p q h = go (ltZ (height pl p) (height pl q)) (ltZ (height pl q) (height pl p)) refl refl h
-    where
-      go : (a b : Bool) → ltZ (height pl p) (height pl q) ≡ a → ltZ (height pl q) (height pl p) ≡ b → a || (not b && ltb p q) ≡ true
-          → (ltZ (height pl p) (height pl q) ≡ true) ⊎ ((height pl p ≡ height pl q) × (p < q))
-      go true b e f k = inl e
-      go false true e f k = absurd (true≢false (sym k))
-      go false false e f k = inr (ltZ-level (height pl p) (height pl q) e f, ltb-true p q k)
+  byHeight-strict : StrictTotal byHeight
+  unfolding byHeight
+  byHeight-strict = lex-strict ltZ (height pl) (drivenBefore pl.columns) ltZ-linear (strict-ties (height pl) (driven-strict pl.columns))
 
-  lex-lower : (p q : ℕ) → ltZ (height pl p) (height pl q) ≡ true → lex p q ≡ true
-  unfolding lex
-  lex-lower p q h = rw h
-
-  lex-level : (p q : ℕ) → height pl p ≡ height pl q → p < q → lex p q ≡ true
-  unfolding lex
-  lex-level p q e h = rw (e, ltZ-irrefl (height pl q), lt-ltb p q h)
-
-  lex-trans : (p q r : ℕ) → lex p q ≡ true → lex q r ≡ true → lex p r ≡ true
-  lex-trans p q r h k =
-      ⊎-elim
-      (λ (a : ltZ (height pl p) (height pl q) ≡ true).
-      ⊎-elim
-      (λ (b : ltZ (height pl q) (height pl r) ≡ true). lex-lower p r (ltZ-trans (height pl p) (height pl q) (height pl r) a b))
-      (λ (b : (height pl q ≡ height pl r) × (q < r)). lex-lower p r (rw (b .0) at a))
-      (lex-cases q r k))
-      (λ (a : (height pl p ≡ height pl q) × (p < q)).
-      ⊎-elim
-      (λ (b : ltZ (height pl q) (height pl r) ≡ true). lex-lower p r (rw (a .0) b))
-      (λ (b : (height pl q ≡ height pl r) × (q < r)). lex-level p r (a .0 ∙ b .0) (omega arith))
-      (lex-cases q r k))
-      (lex-cases p q h)
-
-  lex-irrefl : (p : ℕ) → lex p p ≡ false
-  unfolding lex
-  lex-irrefl p = rw (ltZ-irrefl (height pl p), le-ltb p p (omega arith))
-
-  lex-other : (p q : ℕ) → (p ≡ q → ⊥) → lex q p ≡ not (lex p q)
-  unfolding lex
-  lex-other p q h = go (ltZ (height pl p) (height pl q)) (ltZ (height pl q) (height pl p)) refl refl
-    where
-      go : (a b : Bool) → ltZ (height pl p) (height pl q) ≡ a → ltZ (height pl q) (height pl p) ≡ b
-          → b || (not a && ltb q p) ≡ not (a || (not b && ltb p q))
-      go true true e f = absurd (true≢false (sym f ∙ ltZ-asym (height pl p) (height pl q) e))
-      go true false e f = refl
-      go false true e f = refl
-      go false false e f = ltb-other p q h
-
-  -- between posts the order is by height, then by number
+  -- between posts the order is by height, then as driven
   pub below-lex : (p q : ℕ) → (p ≡ virtualPit → ⊥) → (q ≡ virtualPit → ⊥)
-      → below pl p q ≡ ltZ (height pl p) (height pl q) || (not (ltZ (height pl q) (height pl p)) && ltb p q)
+      → below pl p q ≡ ltZ (height pl p) (height pl q) || (not (ltZ (height pl q) (height pl p)) && drivenBefore pl.columns p q)
   unfolding below
   below-lex p q h k = rw (ne-eqb p virtualPit h, ne-eqb q virtualPit k)
 
@@ -127,30 +80,30 @@ module _ (pl : Plot) where
   not-tied-pit p = rw (eq-eqb virtualPit virtualPit refl, or-true)
 
   pub below-strict : StrictTotal (below pl)
-  unfolding below lex
+  unfolding below byHeight
   below-strict = record { irrefl = irr; other = oth; trans = tra }
     where
       irr : (p : ℕ) → below pl p p ≡ false
       irr p = go (eqb p virtualPit)
         where
-          go : (t : Bool) → not t && (t || lex p p) ≡ false
+          go : (t : Bool) → not t && (t || byHeight p p) ≡ false
           go true = refl
-          go false = lex-irrefl p
+          go false = byHeight-strict .irrefl p
 
       oth : (p q : ℕ) → (p ≡ q → ⊥) → below pl q p ≡ not (below pl p q)
       oth p q h = go (eqb p virtualPit) (eqb q virtualPit) refl refl
         where
-          go : (a b : Bool) → eqb p virtualPit ≡ a → eqb q virtualPit ≡ b → not a && (b || lex q p) ≡ not (not b && (a || lex p q))
+          go : (a b : Bool) → eqb p virtualPit ≡ a → eqb q virtualPit ≡ b → not a && (b || byHeight q p) ≡ not (not b && (a || byHeight p q))
           go true true e f = absurd (h (eqb-true p virtualPit e ∙ sym (eqb-true q virtualPit f)))
           go true false e f = refl
           go false true e f = refl
-          go false false e f = lex-other p q h
+          go false false e f = byHeight-strict .other p q h
 
       tra : (p q r : ℕ) → below pl p q ≡ true → below pl q r ≡ true → below pl p r ≡ true
       tra p q r h k = go (eqb p virtualPit) (eqb q virtualPit) (eqb r virtualPit) h k
         where
-          go : (a b c : Bool) → not b && (a || lex p q) ≡ true → not c && (b || lex q r) ≡ true → not c && (a || lex p r) ≡ true
+          go : (a b c : Bool) → not b && (a || byHeight p q) ≡ true → not c && (b || byHeight q r) ≡ true → not c && (a || byHeight p r) ≡ true
           go a true c e f = absurd (true≢false (sym e))
           go a false true e f = absurd (true≢false (sym f))
           go true false false e f = refl
-          go false false false e f = lex-trans p q r e f
+          go false false false e f = byHeight-strict .trans p q r e f

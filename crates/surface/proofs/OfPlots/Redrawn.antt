@@ -1,6 +1,6 @@
 -- One new height leaves every mark outside the posts that touch it, so redrawing those gives the marks of a fresh survey.
 use Prim.Native.Nat.{ℕ, _<_}
-use mathlib.Core.Path.{_≡_, sym, ap, _∙_}
+use mathlib.Core.Path.{_≡_, refl, sym, ap, _∙_}
 use mathlib.Core.Bool.{false, cond, true≢false}
 use mathlib.Core.List.{List}
 use mathlib.Core.Logic.{_≢_}
@@ -18,13 +18,13 @@ use Rattle.surface.proofs.General.ListOf.{length-listOf, getD-listOf, l
 use Rattle.surface.proofs.AnyOrder.Offsets.{touches-sym}
 use Rattle.surface.proofs.AnyOrder.Locality.{Touching, aPost, thePit, AgreeRound, directed-agree, diagonal-local, mark-local}
 
--- the height order reads the heights of the two posts; the virtual pit has none
-below-agree : (pl pl′ : Plot) (u v : ℕ) → (eqb u virtualPit ≡ false → height pl u ≡ height pl′ u) → (eqb v virtualPit ≡ false → height pl v ≡ height pl′ v)
+-- the height order reads the heights of the two posts, the virtual pit having none, and their places
+below-agree : (pl pl′ : Plot) (u v : ℕ) → pl.columns ≡ pl′.columns → (eqb u virtualPit ≡ false → height pl u ≡ height pl′ u) → (eqb v virtualPit ≡ false → height pl v ≡ height pl′ v)
     → below pl u v ≡ below pl′ u v
 unfolding below
-below-agree pl pl′ u v hu hv =
+below-agree pl pl′ u v c hu hv =
     either (eqb v virtualPit) (λ ev. cc)
-    (λ ev. either (eqb u virtualPit) (λ eu. cc) (λ eu. cc (hu eu, hv ev)))
+    (λ ev. either (eqb u virtualPit) (λ eu. cc) (λ eu. cc (c, hu eu, hv ev)))
 
 -- heights that agree at every post other than z
 module _ (pl : Plot) (s : Sides pl.rows pl.columns) (z : ℕ) (hs′ : List ℤ) (same : (q : ℕ) → q ≢ z → height pl q ≡ height (over pl hs′) q) (p : ℕ) (h : p < posts pl) (apart : touches pl.columns z p ≡ false) where
@@ -33,7 +33,7 @@ module _ (pl : Plot) (s : Sides pl.rows pl.columns) (z : ℕ) (hs′ : List ℤ)
   touching-height u (thePit w) e = absurd (eqb-false u virtualPit e w)
 
   below-local : AgreeRound pl.rows pl.columns (below pl) (below (over pl hs′)) p
-  below-local u v bu bv = below-agree pl (over pl hs′) u v (touching-height u bu) (touching-height v bv)
+  below-local u v bu bv = below-agree pl (over pl hs′) u v refl (touching-height u bu) (touching-height v bv)
 
   markAt-local : markAt pl p ≡ markAt (over pl hs′) p
   unfolding markAt ringOf

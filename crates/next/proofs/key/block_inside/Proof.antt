@@ -1,129 +1,55 @@
 -- All nine are posts of the plot.
-use mathlib.Core.Path.{refl}
-use native.Mathlib.Omega.{arith}
+use mathlib.Core.Path.{ap, _∙_}
+use Rattle.surface.specs.Plot.{plotOf}
+use Rattle.next.proofs.Corners.{off-borders}
+use Rattle.next.specs.Keys.{keyOf}
+use Rattle.next.proofs.Keyed.{bits-of, same-block}
+use Rattle.next.proofs.Nine.{own-there, n-there, ne-there, e-there, se-there, s-there, sw-there, w-there, nw-there, offsets}
 use Rattle.next.proofs.key.block_inside.Statement.{statement}
 use Rattle.next.proofs.key.block_inside.Tie as tie
 
-key-of-requires : tie.Need-key-of-requires
-key-of-requires c κs = (record { valid = c .pre .0; post = c .pre .1 .post }, omega arith)
+key-at-requires : tie.Need-key-at-requires
+key-at-requires c κs = (c .pre .0, c .pre .2, own-there (c .pre .0))
 
-sub-key-of : tie.Need-sub-key-of
-sub-key-of c = let start = c .before in omega (arith, start .pre .1 .north refl, start .pre .0 .sides)
+key-at-requires-2 : tie.Need-key-at-requires-2
+key-at-requires-2 c κs = let s = c .before in let o = off-borders (s .pre .0) (s .pre .1) in (s .pre .0, s .pre .2, n-there (s .pre .0) (o .top))
 
-key-of-requires-2 : tie.Need-key-of-requires-2
-key-of-requires-2 c κs =
-    let start = c .before in
-    let k = start .pre .1 .north refl in
-    let s = start .pre .0 .sides in
-    (record { valid = start .pre .0; post = omega (arith, k, start .pre .1 .post) }, omega (arith, k, s .wide))
+key-at-requires-3 : tie.Need-key-at-requires-3
+key-at-requires-3 c κs = let s = c .before .before in let o = off-borders (s .pre .0) (s .pre .1) in (s .pre .0, s .pre .2, ne-there (s .pre .0) (o .top) (o .right))
 
-sub-key-of-2 : tie.Need-sub-key-of-2
-sub-key-of-2 c = let start = c .before .before in omega (arith, start .pre .1 .northEast refl, start .pre .0 .sides)
+key-at-requires-4 : tie.Need-key-at-requires-4
+key-at-requires-4 c κs = let s = c .before .before .before in let o = off-borders (s .pre .0) (s .pre .1) in (s .pre .0, s .pre .2, e-there (s .pre .0) (o .right))
 
-sub-key-of-3 : tie.Need-sub-key-of-3
-sub-key-of-3 c = let start = c .before .before in omega (arith, start .pre .1 .northEast refl, start .pre .0 .sides)
+key-at-requires-5 : tie.Need-key-at-requires-5
+key-at-requires-5 c κs = let s = c .before .before .before .before in let o = off-borders (s .pre .0) (s .pre .1) in (s .pre .0, s .pre .2, se-there (s .pre .0) (o .right) (o .bottom))
 
-key-of-requires-3 : tie.Need-key-of-requires-3
-key-of-requires-3 c κs =
-    let start = c .before .before in
-    let k = start .pre .1 .northEast refl in
-    let s = start .pre .0 .sides in
-    (record { valid = start .pre .0; post = omega (arith, k, start .pre .1 .post) }, omega (arith, k, s .wide))
+key-at-requires-6 : tie.Need-key-at-requires-6
+key-at-requires-6 c κs = let s = c .before .before .before .before .before in let o = off-borders (s .pre .0) (s .pre .1) in (s .pre .0, s .pre .2, s-there (s .pre .0) (o .bottom))
 
-add-key-of : tie.Need-add-key-of
-add-key-of c = let start = c .before .before .before in omega (arith, start .pre .1 .east refl, start .pre .0 .sides)
+key-at-requires-7 : tie.Need-key-at-requires-7
+key-at-requires-7 c κs = let s = c .before .before .before .before .before .before in let o = off-borders (s .pre .0) (s .pre .1) in (s .pre .0, s .pre .2, sw-there (s .pre .0) (o .bottom) (o .left))
 
-key-of-requires-4 : tie.Need-key-of-requires-4
-key-of-requires-4 c κs =
-    let start = c .before .before .before in
-    let k = start .pre .1 .east refl in
-    let s = start .pre .0 .sides in
-    (record { valid = start .pre .0; post = omega (arith, k, start .pre .1 .post) }, omega (arith, k, s .wide))
+key-at-requires-8 : tie.Need-key-at-requires-8
+key-at-requires-8 c κs = let s = c .before .before .before .before .before .before .before in let o = off-borders (s .pre .0) (s .pre .1) in (s .pre .0, s .pre .2, w-there (s .pre .0) (o .left))
 
-add-key-of-2 : tie.Need-add-key-of-2
-add-key-of-2 c = let start = c .before .before .before .before in omega (arith, start .pre .1 .southEast refl, start .pre .0 .sides)
-
-add-key-of-3 : tie.Need-add-key-of-3
-add-key-of-3 c = let start = c .before .before .before .before in omega (arith, start .pre .1 .southEast refl, start .pre .0 .sides)
-
-key-of-requires-5 : tie.Need-key-of-requires-5
-key-of-requires-5 c κs =
-    let start = c .before .before .before .before in
-    let k = start .pre .1 .southEast refl in
-    let s = start .pre .0 .sides in
-    (record { valid = start .pre .0; post = omega (arith, k, start .pre .1 .post) }, omega (arith, k, s .wide))
-
-add-key-of-4 : tie.Need-add-key-of-4
-add-key-of-4 c = let start = c .before .before .before .before .before in omega (arith, start .pre .1 .south refl, start .pre .0 .sides)
-
-key-of-requires-6 : tie.Need-key-of-requires-6
-key-of-requires-6 c κs =
-    let start = c .before .before .before .before .before in
-    let k = start .pre .1 .south refl in
-    let s = start .pre .0 .sides in
-    (record { valid = start .pre .0; post = omega (arith, k, start .pre .1 .post) }, omega (arith, k, s .wide))
-
-sub-key-of-4 : tie.Need-sub-key-of-4
-sub-key-of-4 c = let start = c .before .before .before .before .before .before in omega (arith, start .pre .1 .southWest refl, start .pre .0 .sides)
-
-add-key-of-5 : tie.Need-add-key-of-5
-add-key-of-5 c = let start = c .before .before .before .before .before .before in omega (arith, start .pre .1 .southWest refl, start .pre .0 .sides)
-
-key-of-requires-7 : tie.Need-key-of-requires-7
-key-of-requires-7 c κs =
-    let start = c .before .before .before .before .before .before in
-    let k = start .pre .1 .southWest refl in
-    let s = start .pre .0 .sides in
-    (record { valid = start .pre .0; post = omega (arith, k, start .pre .1 .post) }, omega (arith, k, s .wide))
-
-sub-key-of-5 : tie.Need-sub-key-of-5
-sub-key-of-5 c = let start = c .before .before .before .before .before .before .before in omega (arith, start .pre .1 .west refl, start .pre .0 .sides)
-
-key-of-requires-8 : tie.Need-key-of-requires-8
-key-of-requires-8 c κs =
-    let start = c .before .before .before .before .before .before .before in
-    let k = start .pre .1 .west refl in
-    let s = start .pre .0 .sides in
-    (record { valid = start .pre .0; post = omega (arith, k, start .pre .1 .post) }, omega (arith, k, s .wide))
-
-add-key-of-6 : tie.Need-add-key-of-6
-add-key-of-6 c = let start = c .before .before .before .before .before .before .before .before in omega (arith, start .pre .1 .northWest refl, start .pre .0 .sides)
-
-sub-key-of-6 : tie.Need-sub-key-of-6
-sub-key-of-6 c = let start = c .before .before .before .before .before .before .before .before in omega (arith, start .pre .1 .northWest refl, start .pre .0 .sides)
-
-key-of-requires-9 : tie.Need-key-of-requires-9
-key-of-requires-9 c κs =
-    let start = c .before .before .before .before .before .before .before .before in
-    let k = start .pre .1 .northWest refl in
-    let s = start .pre .0 .sides in
-    (record { valid = start .pre .0; post = omega (arith, k, start .pre .1 .post) }, omega (arith, k, s .wide))
+key-at-requires-9 : tie.Need-key-at-requires-9
+key-at-requires-9 c κs = let s = c .before .before .before .before .before .before .before .before in let o = off-borders (s .pre .0) (s .pre .1) in (s .pre .0, s .pre .2, nw-there (s .pre .0) (o .left) (o .top))
 
 returns : tie.Need-returns
-returns c = (
-  rw (
-    c .key-of9 .ensures .0,
-    c .before .key-of8 .ensures .0,
-    c .before .before .key-of7 .ensures .0,
-    c .before .before .before .key-of6 .ensures .0,
-    c .before .before .before .before .key-of5 .ensures .0,
-    c .before .before .before .before .before .key-of4 .ensures .0,
-    c .before .before .before .before .before .before .key-of3 .ensures .0,
-    c .before .before .before .before .before .before .before .key-of2 .ensures .0,
-    c .before .before .before .before .before .before .before .before .key-of .ensures .0,
-  ),
-  record {
-    post = c .before .before .before .before .before .before .before .before .key-of .ensures .1;
-    n = c .before .before .before .before .before .before .before .key-of2 .ensures .1;
-    ne = c .before .before .before .before .before .before .key-of3 .ensures .1;
-    e = c .before .before .before .before .before .key-of4 .ensures .1;
-    se = c .before .before .before .before .key-of5 .ensures .1;
-    s = c .before .before .before .key-of6 .ensures .1;
-    sw = c .before .before .key-of7 .ensures .1;
-    w = c .before .key-of8 .ensures .1;
-    nw = c .key-of9 .ensures .1;
-  },
-)
+returns c =
+    let s = c .before .before .before .before .before .before .before .before .before in
+    let key = keyOf (plotOf (s .args .grid) (s .args .heights .now)) (s .args .p) in
+    let e = offsets (s .args .p) (s .args .grid .columns) (s .pre .0 .valid .sides .wide) in
+    same-block _ _ _ _ _ _ _ _ _ _ _ _ _ _ _ _ _ _
+    (bits-of (c .before .before .before .before .before .before .before .before .key-at .result) (c .before .before .before .before .before .before .before .before .key-at .ok) ∙ c .before .before .before .before .before .before .before .before .key-at .ensures ∙ ap key (e .0))
+    (bits-of (c .before .before .before .before .before .before .before .key-at2 .result) (c .before .before .before .before .before .before .before .key-at2 .ok) ∙ c .before .before .before .before .before .before .before .key-at2 .ensures ∙ ap key (e .1))
+    (bits-of (c .before .before .before .before .before .before .key-at3 .result) (c .before .before .before .before .before .before .key-at3 .ok) ∙ c .before .before .before .before .before .before .key-at3 .ensures ∙ ap key (e .2))
+    (bits-of (c .before .before .before .before .before .key-at4 .result) (c .before .before .before .before .before .key-at4 .ok) ∙ c .before .before .before .before .before .key-at4 .ensures ∙ ap key (e .3))
+    (bits-of (c .before .before .before .before .key-at5 .result) (c .before .before .before .before .key-at5 .ok) ∙ c .before .before .before .before .key-at5 .ensures ∙ ap key (e .4))
+    (bits-of (c .before .before .before .key-at6 .result) (c .before .before .before .key-at6 .ok) ∙ c .before .before .before .key-at6 .ensures ∙ ap key (e .5))
+    (bits-of (c .before .before .key-at7 .result) (c .before .before .key-at7 .ok) ∙ c .before .before .key-at7 .ensures ∙ ap key (e .6))
+    (bits-of (c .before .key-at8 .result) (c .before .key-at8 .ok) ∙ c .before .key-at8 .ensures ∙ ap key (e .7))
+    (bits-of (c .key-at9 .result) (c .key-at9 .ok) ∙ c .key-at9 .ensures ∙ ap key (e .8))
 
 pub block-inside-spec : {M : Type 1} → statement M
-block-inside-spec = tie.close (tie.spec key-of-requires sub-key-of key-of-requires-2 sub-key-of-2 sub-key-of-3 key-of-requires-3 add-key-of key-of-requires-4 add-key-of-2 add-key-of-3 key-of-requires-5 add-key-of-4 key-of-requires-6 sub-key-of-4 add-key-of-5 key-of-requires-7 sub-key-of-5 key-of-requires-8 add-key-of-6 sub-key-of-6 key-of-requires-9 returns)
+block-inside-spec = tie.close (tie.spec key-at-requires key-at-requires-2 key-at-requires-3 key-at-requires-4 key-at-requires-5 key-at-requires-6 key-at-requires-7 key-at-requires-8 key-at-requires-9 returns)

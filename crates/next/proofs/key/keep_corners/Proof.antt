@@ -1,33 +1,33 @@
 -- Four comparisons, and four choices by them.
-use mathlib.Core.Bool.{_&&_}
-use Rattle.next.proofs.Keyed.{small-cond}
+use mathlib.Core.Path.{_≡_, _∙_}
+use mir.Syntax.{w32}
+use mir.Val.{toZ, ofZ}
 use borrow.Author.Needs.{needs}
+use Rattle.next.proofs.Keyed.{bits-of, same-block}
 use Rattle.next.proofs.key.keep_corners.Statement.{statement}
 use Rattle.next.proofs.key.keep_corners.Tie as tie
 
 returns : tie.Need-returns
 returns c =
-    let sw = c .before in
-    let se = sw .before in
-    let ne = se .before in
-    let w = ne .before in
-    let s = w .before in
-    let e = s .before in
-    let n = e .before in
-    let small = n .before .pre in (
-      rw (c .choose4 .ensures, sw .choose3 .ensures, se .choose2 .ensures, ne .choose .ensures, w .is-farther4 .ensures, s .is-farther3 .ensures, e .is-farther2 .ensures, n .is-farther .ensures),
-      record {
-        post = small .post;
-        n = small .n;
-        ne = rw (ne .choose .ensures) (small-cond (n .is-farther .result && e .is-farther2 .result) _ _ (small .ne) (small .post));
-        e = small .e;
-        se = rw (se .choose2 .ensures) (small-cond (e .is-farther2 .result && s .is-farther3 .result) _ _ (small .se) (small .post));
-        s = small .s;
-        sw = rw (sw .choose3 .ensures) (small-cond (s .is-farther3 .result && w .is-farther4 .result) _ _ (small .sw) (small .post));
-        w = small .w;
-        nw = rw (c .choose4 .ensures) (small-cond (w .is-farther4 .result && n .is-farther .result) _ _ (small .nw) (small .post));
-      },
-    )
+    let k = c .before .before .before .before .before .before .before .before .before .before .before .before .before .before .before .before .before .before .before .before .before .before .before .before .before .args .b in
+    let bpost : toZ w32 (ofZ w32 (k .post)) ≡ k .post = search needs in
+    let bn : toZ w32 (ofZ w32 (k .n)) ≡ k .n = search needs in
+    let bne : toZ w32 (ofZ w32 (k .ne)) ≡ k .ne = search needs in
+    let be : toZ w32 (ofZ w32 (k .e)) ≡ k .e = search needs in
+    let bse : toZ w32 (ofZ w32 (k .se)) ≡ k .se = search needs in
+    let bs : toZ w32 (ofZ w32 (k .s)) ≡ k .s = search needs in
+    let bsw : toZ w32 (ofZ w32 (k .sw)) ≡ k .sw = search needs in
+    let bw : toZ w32 (ofZ w32 (k .w)) ≡ k .w = search needs in
+    let bnw : toZ w32 (ofZ w32 (k .nw)) ≡ k .nw = search needs in
+    let f1 = rw (bn, bpost) at (c .before .before .before .before .before .before .before .before .before .before .before .before .before .before .before .before .before .before .before .before .before .before .is-farther .ensures) in
+    let f2 = rw (be, bpost) at (c .before .before .before .before .before .before .before .before .before .before .before .before .before .before .before .before .before .before .before .is-farther2 .ensures) in
+    let f3 = rw (bs, bpost) at (c .before .before .before .before .before .before .before .before .before .before .before .before .before .before .before .before .is-farther3 .ensures) in
+    let f4 = rw (bw, bpost) at (c .before .before .before .before .before .before .before .before .before .before .before .before .before .is-farther4 .ensures) in
+    let c1 = bits-of (c .before .before .before .before .before .before .before .before .before .before .choose .result) (c .before .before .before .before .before .before .before .before .before .before .choose .ok) ∙ rw (bne, bpost, f1, f2) at (c .before .before .before .before .before .before .before .before .before .before .choose .ensures) in
+    let c2 = bits-of (c .before .before .before .before .before .before .before .choose2 .result) (c .before .before .before .before .before .before .before .choose2 .ok) ∙ rw (bse, bpost, f2, f3) at (c .before .before .before .before .before .before .before .choose2 .ensures) in
+    let c3 = bits-of (c .before .before .before .before .choose3 .result) (c .before .before .before .before .choose3 .ok) ∙ rw (bsw, bpost, f3, f4) at (c .before .before .before .before .choose3 .ensures) in
+    let c4 = bits-of (c .before .choose4 .result) (c .before .choose4 .ok) ∙ rw (bnw, bpost, f4, f1) at (c .before .choose4 .ensures) in
+    same-block _ _ _ _ _ _ _ _ _ _ _ _ _ _ _ _ _ _ bpost bn c1 be c2 bs c3 bw c4
 
 pub keep-corners-spec : {M : Type 1} → statement M
 keep-corners-spec = tie.close (tie.spec (search needs) (search needs) (search needs) (search needs) (search needs) (search needs) (search needs) (search needs) returns)

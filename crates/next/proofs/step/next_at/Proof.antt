@@ -1,34 +1,49 @@
 -- On a border next down is the virtual pit.
-use mathlib.Core.Path.{sym, _∙_}
+use native.Mathlib.Omega.{arith}
+use mathlib.Core.Path.{_≡_, sym, _∙_}
+use mathlib.Core.Bool.{false}
 use borrow.Author.Tests.{not-true, not-false}
 use Rattle.surface.specs.Plot.{plotOf, virtualPit}
+use Rattle.surface.specs.Edges.{isBorder}
 use Rattle.surface.proofs.OfPlots.Instance.{border-drains}
 use borrow.Author.Needs.{needs}
 use Rattle.next.proofs.step.next_at.Statement.{statement}
 use Rattle.next.proofs.step.next_at.Tie as tie
 
-is-border-requires : tie.Need-is-border-requires
-is-border-requires c κs = search needs
+inside : (c : tie.Then1) → let a = c .before .before .args in isBorder (a .grid .rows) (a .grid .columns) (a .p) ≡ false
+inside c = sym (c .before .is-border .ensures) ∙ not-true _ (c .if1 .taken)
 
 next-inside-requires : tie.Need-next-inside-requires
-next-inside-requires c κs = (c .before .before .pre, sym (c .before .is-border .ensures) ∙ not-true _ (c .if1 .taken))
+next-inside-requires c κs =
+    let o = c .before in
+    (o .before .before .before .pre, inside (o .before), sym (c .if2 .taken) ∙ o .is-odd-row .ensures)
 
-returns : tie.Need-returns
-returns c = search needs
-
-next-up-anywhere-requires : tie.Need-next-up-anywhere-requires
-next-up-anywhere-requires c κs = search needs
-
-returns-2 : tie.Need-returns-2
-returns-2 c = rw (c .before .if2 .taken) (c .next-up-anywhere .ensures)
+next-inside-requires-2 : tie.Need-next-inside-requires-2
+next-inside-requires-2 c κs =
+    let o = c .before in
+    (o .before .before .before .pre, inside (o .before), sym (c .if2 .left) ∙ o .is-odd-row .ensures)
 
 returns-3 : tie.Need-returns-3
+returns-3 c = rw (c .before .if3 .taken) (c .next-up-anywhere .ensures)
+
+returns-4 : tie.Need-returns-4
 unfolding virtualPit
-returns-3 c =
+returns-4 c =
     let start = c .before .before .before in
     let pl = plotOf (start .args .grid) (start .args .heights .now) in
-    rw (c .if2 .left)
+    rw (c .if3 .left)
     (sym (border-drains pl (start .pre .valid .sides) (start .args .p) (start .pre .post) (sym (c .before .before .is-border .ensures) ∙ not-false _ (c .before .if1 .left))))
 
 pub next-at-spec : {M : Type 1} → statement M
-next-at-spec = tie.close (tie.spec is-border-requires next-inside-requires returns next-up-anywhere-requires returns-2 returns-3)
+next-at-spec =
+    tie.close
+    (tie.spec
+    (search needs)
+    (λ c κs. omega (arith, c .before .before .pre .valid .sides))
+    next-inside-requires
+    (search needs)
+    next-inside-requires-2
+    (search needs)
+    (λ c κs. c .before .before .before .pre)
+    returns-3
+    returns-4)

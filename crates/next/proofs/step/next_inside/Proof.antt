@@ -3,8 +3,7 @@ use native.Mathlib.Omega.{arith}
 use mathlib.Core.Path.{_∙_}
 use Rattle.surface.specs.Plot.{plotOf}
 use Rattle.surface.specs.Lines.{next, toward}
-use Rattle.next.proofs.Corners.{inside-posts}
-use Rattle.next.proofs.Keyed.{Tells, inside-told}
+use Rattle.next.proofs.Keyed.{Tells, bits-of, inside-told}
 use Rattle.next.proofs.step.next_inside.Statement.{statement}
 use Rattle.next.proofs.step.next_inside.Tie as tie
 
@@ -14,14 +13,14 @@ told : (c : tie.After-farthest-inside)
     Tells pl (a .p) (c .farthest-inside .result) (next (toward (a .up) pl) (a .p))
 told c = let start = c .before in inside-told (start .pre .0) (start .args .up) (start .pre .1) _ (c .farthest-inside .ensures)
 
-farthest-inside-requires : tie.Need-farthest-inside-requires
-farthest-inside-requires c κs = (c .pre .0 .valid, inside-posts (c .pre .0) (c .pre .1))
-
 post-of-requires : tie.Need-post-of-requires
-post-of-requires c κs = let a = c .before .pre .0 in (a .valid .sides .narrow, omega (arith, a .post, a .valid .sides), told c .placed)
+post-of-requires c κs =
+    let a = c .before .pre .0 in
+    let t = told c in
+    rw (bits-of (c .farthest-inside .result) (c .farthest-inside .ok)) (a .valid .sides .narrow, omega (arith, a .post, a .valid .sides), t .low, t .placed)
 
 returns : tie.Need-returns
-returns c = c .post-of .ensures ∙ told (c .before) .post
+returns c = (rw (bits-of (c .before .farthest-inside .result) (c .before .farthest-inside .ok)) at (c .post-of .ensures)) ∙ told (c .before) .post
 
 pub next-inside-spec : {M : Type 1} → statement M
-next-inside-spec = tie.close (tie.spec farthest-inside-requires post-of-requires returns)
+next-inside-spec = tie.close (tie.spec (λ c κs. c .pre) post-of-requires returns)

@@ -3,7 +3,7 @@ use Prim.Native.Nat.{_+_, _-_, _≤_}
 use native.Mathlib.Omega.{arith}
 use mathlib.Core.Path.{_≡_}
 use mathlib.Core.Bool.{false}
-use Rattle.surface.specs.Plot.{plotOf, PostOf}
+use Rattle.surface.specs.Plot.{plotOf, row, isOdd, PostOf}
 use Rattle.surface.specs.Edges.{isBorder}
 use Rattle.parts.specs.Filled.{ForParts, BothFilled}
 use Rattle.parts.proofs.Filled.{next-fits, filled-none, filled-more, filled-lists, dales-long, hills-long}
@@ -11,10 +11,10 @@ use Rattle.parts.proofs.fill.fill_inside.Statement.{statement}
 use Rattle.parts.proofs.fill.fill_inside.Tie as tie
 
 abbrev Inv-loop : tie.InvT-loop
-Inv-loop heights grid from n dales₀ hills₀ i₀ dales hills i = (i ≤ n) × BothFilled (plotOf grid heights) from i dales₀ hills₀ dales hills
+Inv-loop heights grid from n odd dales₀ hills₀ i₀ dales hills i = (i ≤ n) × BothFilled (plotOf grid heights) from i dales₀ hills₀ dales hills
 
 abbrev μ-loop : tie.MeasureT-loop
-μ-loop heights grid from n dales₀ hills₀ i₀ dales hills i = n - i
+μ-loop heights grid from n odd dales₀ hills₀ i₀ dales hills i = n - i
 
 -- the function's entry, from the loop's head, and the lists as they stand there
 abbrev start : tie.At-loop Inv-loop μ-loop → tie.Start Inv-loop μ-loop
@@ -29,8 +29,10 @@ post c = record { valid = lent (c .before) .valid; post = omega (arith, start (c
 
 inside : (c : tie.In-loop Inv-loop μ-loop)
     → let a = start (c .before) .args in
-    PostOf (plotOf (a .grid) (a .heights .now)) (a .from + c .before .loop .i) × (isBorder (a .grid .rows) (a .grid .columns) (a .from + c .before .loop .i) ≡ false)
-inside c = (post c, start (c .before) .pre .1 (c .before .loop .i) (c .loop-test .taken))
+    PostOf (plotOf (a .grid) (a .heights .now)) (a .from + c .before .loop .i)
+    × (isBorder (a .grid .rows) (a .grid .columns) (a .from + c .before .loop .i) ≡ false)
+    × (a .odd ≡ isOdd (row (a .grid .columns) (a .from + c .before .loop .i)))
+inside c = let k = start (c .before) .pre .1 (c .before .loop .i) (c .loop-test .taken) in (post c, k .0, k .1)
 
 loop-holds : tie.Need-loop-holds Inv-loop μ-loop
 loop-holds c = (omega arith, filled-none _ _ _ _)
@@ -41,26 +43,32 @@ add-p c = omega (arith, post c .post, post c .valid .sides)
 next-inside-requires : tie.Need-next-inside-requires Inv-loop μ-loop
 next-inside-requires c κs = inside c
 
-cast-dales : tie.Need-cast-dales Inv-loop μ-loop
-cast-dales c = omega (arith, c .next-inside .ensures, next-fits (post (c .before)))
-
-mul-dales : tie.Need-mul-dales Inv-loop μ-loop
-mul-dales c = omega (arith, post (c .before) .post, post (c .before) .valid .sides)
-
-slice-write-dales : tie.Need-slice-write-dales Inv-loop μ-loop
-slice-write-dales c = omega (arith, post (c .before) .post, lent (c .before .before) .dalesSize)
-
 next-inside-requires-2 : tie.Need-next-inside-requires-2 Inv-loop μ-loop
 next-inside-requires-2 c κs = inside (c .before)
 
+-- the turn's post, once both are known
+turn : (c : tie.After-next-inside2 Inv-loop μ-loop)
+    → let i = c .before .before in
+    PostOf (plotOf (start (i .before) .args .grid) (start (i .before) .args .heights .now)) (start (i .before) .args .from + i .before .loop .i)
+turn c = post (c .before .before)
+
+cast-dales : tie.Need-cast-dales Inv-loop μ-loop
+cast-dales c = omega (arith, c .before .next-inside .ensures, next-fits (turn c))
+
+mul-dales : tie.Need-mul-dales Inv-loop μ-loop
+mul-dales c = omega (arith, turn c .post, turn c .valid .sides)
+
+slice-write-dales : tie.Need-slice-write-dales Inv-loop μ-loop
+slice-write-dales c = omega (arith, turn c .post, lent (c .before .before .before) .dalesSize)
+
 cast-hills : tie.Need-cast-hills Inv-loop μ-loop
-cast-hills c = omega (arith, c .next-inside2 .ensures, next-fits (post (c .before .before)))
+cast-hills c = omega (arith, c .next-inside2 .ensures, next-fits (turn c))
 
 mul-hills : tie.Need-mul-hills Inv-loop μ-loop
-mul-hills c = omega (arith, post (c .before .before) .post, post (c .before .before) .valid .sides)
+mul-hills c = omega (arith, turn c .post, turn c .valid .sides)
 
 slice-write-hills : tie.Need-slice-write-hills Inv-loop μ-loop
-slice-write-hills c = omega (arith, post (c .before .before) .post, lent (c .before .before .before) .hillsSize)
+slice-write-hills c = omega (arith, turn c .post, lent (c .before .before .before) .hillsSize)
 
 loop-again : tie.Need-loop-again Inv-loop μ-loop
 loop-again c = (omega arith, filled-more (c .before .before .before .loop .inv .1) _ _ (c .before .next-inside .ensures) (c .next-inside2 .ensures))
@@ -77,4 +85,4 @@ returns c =
     rw e at (c .before .loop .inv .1)
 
 pub fill-inside-spec : {M : Type 1} → statement M
-fill-inside-spec = tie.close (tie.spec Inv-loop μ-loop loop-holds add-p next-inside-requires cast-dales mul-dales slice-write-dales next-inside-requires-2 cast-hills mul-hills slice-write-hills (λ c. omega arith) (λ c. omega arith) loop-again same-length same-length-2 returns)
+fill-inside-spec = tie.close (tie.spec Inv-loop μ-loop loop-holds add-p next-inside-requires next-inside-requires-2 cast-dales mul-dales slice-write-dales cast-hills mul-hills slice-write-hills (λ c. omega arith) (λ c. omega arith) loop-again same-length same-length-2 returns)

@@ -1,11 +1,12 @@
 -- A row at once, or its first post, those inside and its last post, one after the other.
 use Prim.Native.Nat.{_+_, _*_, _≤_}
 use native.Mathlib.Omega.{arith}
-use mathlib.Core.Path.{_≡_, refl}
+use mathlib.Core.Path.{_≡_, refl, sym, ap}
 use borrow.Author.Tests.{eqb-false}
 use lib.Dec.{eqb}
-use Rattle.surface.specs.Plot.{plotOf}
+use Rattle.surface.specs.Plot.{plotOf, isOdd}
 use Rattle.surface.proofs.General.Bools.{or-left, or-right}
+use Rattle.surface.proofs.AnyOrder.Grid.{row-is}
 use Rattle.post.specs.Rows.{Between}
 use Rattle.post.proofs.Rows.{between-border, row-between}
 use Rattle.parts.specs.Filled.{BothFilled}
@@ -80,9 +81,10 @@ fill-inside-requires c κs =
     let b = between (tested f) in (
       (filled-lists (f .fill-anywhere2 .ensures) (start f .pre .0), omega (arith, b, s)),
       λ i h.
-          let p = start f .args .r * start f .args .grid .columns in
+          let r = start f .args .r in
+          let p = r * start f .args .grid .columns in
           let e : p + 1 + i ≡ p + (1 + i) = omega arith in
-          rw e (between-border s b (1 + i) (omega arith) (omega (arith, s))),
+          (rw e (between-border s b (1 + i) (omega arith) (omega (arith, s))), ap isOdd (sym (row-is s r (1 + i) (omega (arith, s)) (omega arith)))),
     )
 
 add-fill-anywhere : tie.Need-add-fill-anywhere

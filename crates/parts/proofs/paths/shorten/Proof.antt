@@ -1,83 +1,77 @@
--- The loop's invariant: paths end where they did, and the posts met have their ends as entries.
-use Prim.Native.Nat.{ℕ, _-_, _≤_, _<_}
+-- The loop's invariant: the posts of the rows met are settled.
+use Prim.Native.Nat.{ℕ, _+_, _-_, _*_, _≤_, _<_}
 use native.Mathlib.Omega.{arith}
-use mathlib.Core.Path.{_≡_, refl, sym, _∙_}
-use mathlib.Core.Bool.{Bool, true, false, cond}
+use mathlib.Core.Path.{_≡_, sym, _∙_}
+use mathlib.Core.Bool.{Bool}
 use borrow.Author.Needs.{needs}
 use lib.ListN.{length}
 use lib.Seq.{ext-getD}
 use Rattle.surface.specs.Lists.{listOf}
+use Rattle.surface.specs.Plot.{row, Sides}
 use Rattle.surface.proofs.General.ListOf.{length-listOf, getD-listOf}
-use Rattle.parts.specs.Paths.{follow, pathEnd, Ends}
-use Rattle.parts.proofs.Shorter.{entry, shorter-end, shorter-ends, told-more}
+use Rattle.surface.proofs.AnyOrder.Grid.{post-is, column-lt, row-lt}
+use Rattle.parts.specs.Paths.{pathEnd, Row, Settled}
+use Rattle.parts.proofs.Filled.{row-in}
+use Rattle.parts.proofs.Shorter.{entry, settled-none, settled-then, settled-of}
+use Rattle.parts.proofs.Turns.{met, met-in, met-all, Before, before-more}
 use Rattle.parts.proofs.paths.shorten.Statement.{statement}
 use Rattle.parts.proofs.paths.shorten.Tie as tie
 
--- the post of turn i
-abbrev met : Bool → ℕ → ℕ → ℕ
-met up n i = cond up (n - 1 - i) i
+-- the row of turn j
+abbrev RowOf : ℕ → ℕ → Bool → ℕ → ℕ → Type 0
+RowOf rows columns up j = Row (met up rows j * columns) columns
 
-met-in : (up : Bool) (n i : ℕ) → i < n → met up n i < n
-met-in true n i h = omega arith
-met-in false n i h = h
-
--- every post is met: at the turn that the same order gives it
-met-all : (up : Bool) (n p : ℕ) → p < n → met up n (met up n p) ≡ p
-met-all true n p h = omega arith
-met-all false n p h = refl
+-- every post is in one of the rows met
+in-row : {rows columns : ℕ} → Sides rows columns → (up : Bool) (p : ℕ) → p < rows * columns → Before rows (RowOf rows columns up) p
+in-row {rows} {columns} s up p h =
+    let r = row columns p in
+    let k = row-lt s rows p .1 h in
+    record { turn = met up rows r; early = met-in up rows r k; holds = rw (met-all up rows r k) (omega (arith, post-is columns p, column-lt s p)) }
 
 abbrev Inv-loop : tie.InvT-loop
-Inv-loop list₀ up n i₀ list i =
-    (i ≤ n)
-    × (length list ≡ n)
-    × Ends list
-    × ((q : ℕ) → pathEnd list q ≡ pathEnd list₀ q)
-    × ((j : ℕ) → j < i → follow list (met up n j) ≡ pathEnd list (met up n j))
+Inv-loop list₀ up rows columns i₀ list i = (i ≤ rows) × Settled list₀ list (Before i (RowOf rows columns up))
 
 abbrev μ-loop : tie.MeasureT-loop
-μ-loop list₀ up n i₀ list i = n - i
+μ-loop list₀ up rows columns i₀ list i = rows - i
 
 loop-holds : tie.Need-loop-holds Inv-loop μ-loop
-loop-holds c = (omega arith, refl, c .before .pre, λ q. refl, λ j h. absurd (omega arith))
+loop-holds c = (omega arith, settled-of (settled-none (c .before .pre .0)) (λ p b. absurd (omega (arith, b .early))))
 
-settle-requires : tie.Need-settle-requires Inv-loop μ-loop
-settle-requires c κs =
-    let l = c .before .before .before in
+-- the row of this turn is in the list
+here : (c : tie.After-choose Inv-loop μ-loop) → let g = c .before .before .before .before .args .grid in c .choose .result * g .columns + g .columns ≤ g .rows * g .columns
+here c =
+    let l = c .before .before in
     let a = l .before .before .args in
-    let h = met-in (a .up) (length (a .list .now)) (l .loop .i) (c .before .before .loop-test .taken) in
-    (l .loop .inv .2, rw (c .before .choose .ensures, l .loop .inv .1) h)
+    rw (c .choose .ensures) (row-in (a .grid .columns) _ (met-in (a .up) (a .grid .rows) (l .loop .i) (c .before .loop-test .taken)))
+
+shorten-row-requires : tie.Need-shorten-row-requires Inv-loop μ-loop
+shorten-row-requires c κs =
+    let l = c .before .before .before in
+    let s = l .loop .inv .1 in
+    (s .ends, omega (arith, here (c .before), s .size, l .before .before .pre .2))
 
 loop-again : tie.Need-loop-again Inv-loop μ-loop
 loop-again c =
     let t = c .before .before in
-    let l = t .before .before .before .before in
-    let a = l .before .before .args in
-    let s = t .settle .ensures in
-    let ends = l .loop .inv .2 in
-    let at = met (a .up) (length (a .list .now)) in (
-      omega arith,
-      s .0 .size ∙ l .loop .inv .1,
-      shorter-ends ends (s .0),
-      λ q. shorter-end ends (s .0) q ∙ l .loop .inv .3 q,
-      told-more ends (s .0) at (l .loop .i) (l .loop .inv .4) (rw (← t .before .before .choose .ensures) (s .1)),
-    )
+    let h = t .before .before in
+    let l = h .before .before in
+    (omega arith, settled-then (l .loop .inv .1) (t .shorten-row .ensures) (λ p b. rw (h .choose .ensures) (before-more b)))
 
 same-length : tie.Need-same-length Inv-loop μ-loop
-same-length c = c .before .loop .inv .1
+same-length c = c .before .loop .inv .1 .size
 
 returns : tie.Need-returns Inv-loop μ-loop
 returns c =
     let l = c .before .loop in
-    let a = c .before .before .before .args in
-    let was = a .list .now in
+    let start = c .before .before .before in
+    let was = start .args .list .now in
     let n = length was in
-    ext-getD 0 (l .list) (listOf (pathEnd was) n) (l .inv .1 ∙ sym (length-listOf (pathEnd was) n))
+    let s = l .inv .1 in
+    let e : l .i ≡ start .args .grid .rows = omega arith in
+    ext-getD 0 (l .list) (listOf (pathEnd was) n) (s .size ∙ sym (length-listOf (pathEnd was) n))
     (λ q h.
-    let k : q < n = omega (arith, l .inv .1) in
-    entry (l .list) q 0 q h
-    ∙ rw (← met-all (a .up) n q k) (l .inv .4 (met (a .up) n q) (omega (arith, met-in (a .up) n q k)))
-    ∙ l .inv .3 q
-    ∙ sym (getD-listOf (pathEnd was) n q 0 k))
+    let k : q < n = omega (arith, s .size) in
+    entry (l .list) q 0 q h ∙ s .told q (rw e (in-row (start .pre .1) (start .args .up) q (omega (arith, start .pre .2)))) ∙ sym (getD-listOf (pathEnd was) n q 0 k))
 
 pub shorten-spec : {M : Type 1} → statement M
-shorten-spec = tie.close (tie.spec Inv-loop μ-loop loop-holds (λ c. omega arith) (λ c. omega arith) (search needs) settle-requires (λ c. omega arith) (λ c. omega arith) loop-again same-length returns)
+shorten-spec = tie.close (tie.spec Inv-loop μ-loop loop-holds (λ c. omega arith) (λ c. omega arith) (search needs) (λ c. omega (arith, here (c .before), c .before .before .before .before .before .pre .1)) shorten-row-requires (λ c. omega arith) (λ c. omega arith) loop-again same-length returns)

@@ -22,19 +22,19 @@ returns : tie.Need-returns
 returns c = let h : c .before .args .there ≡ false = not-true _ (c .if1 .taken) in rw h
 
 sub-falls : tie.Need-sub-falls
-sub-falls c = omega (arith, c .before .before .pre .1 (there (c .before)))
+sub-falls c = c .before .before .pre .1 (there (c .before)) .from
 
 falls-requires : tie.Need-falls-requires
-falls-requires c κs = (c .before .before .pre .0, c .before .before .pre .1 (there (c .before)) .1)
+falls-requires c κs = let k = c .before .before .pre .1 (there (c .before)) in (c .before .before .pre .0, k .posts, k .inner)
 
 returns-2 : tie.Need-returns-2
 returns-2 c = rw (there (c .before .before)) (c .falls .ensures ∙ by-rule (c .before .before .before) (sym (c .before .if2 .taken)))
 
 sub-falls-2 : tie.Need-sub-falls-2
-sub-falls-2 c = omega (arith, c .before .before .pre .1 (there (c .before)))
+sub-falls-2 c = c .before .before .pre .1 (there (c .before)) .from
 
 falls-requires-2 : tie.Need-falls-requires-2
-falls-requires-2 c κs = (c .before .before .pre .0, c .before .before .pre .1 (there (c .before)) .1)
+falls-requires-2 c κs = let k = c .before .before .pre .1 (there (c .before)) in (c .before .before .pre .0, k .posts, k .inner)
 
 returns-3 : tie.Need-returns-3
 returns-3 c = rw (there (c .before .before)) (c .falls2 .ensures ∙ by-rule (c .before .before .before) (sym (c .before .if2 .left)))

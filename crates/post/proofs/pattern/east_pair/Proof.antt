@@ -1,13 +1,16 @@
 -- A side and a corner, each compared where it is there.
 use native.Mathlib.Omega.{arith}
-use mathlib.Core.Path.{refl, _∙_}
+use Prim.Native.Nat.{_+_}
+use mathlib.Core.Path.{refl, sym, ap, _∙_}
+use mathlib.Core.Bool.{not}
 use borrow.Author.Needs.{needs}
 use borrow.Author.Tests.{not-true}
 use Rattle.surface.specs.Edges.{bottom, right}
 use Rattle.surface.specs.Flags.{eastPair}
 use Rattle.surface.proofs.AnyOrder.Grid.{east-post}
-use Rattle.post.proofs.Around.{cell-se}
-use Rattle.post.proofs.Paired.{same, paired}
+use Rattle.surface.proofs.OfPlots.Driven.{far-told, east-told, south-told}
+use Rattle.post.proofs.Around.{both, cell-se}
+use Rattle.post.proofs.Paired.{same, as-told, paired}
 use Rattle.post.proofs.pattern.east_pair.Statement.{statement}
 use Rattle.post.proofs.pattern.east_pair.Tie as tie
 
@@ -24,7 +27,7 @@ ahead-requires : tie.Need-ahead-requires
 ahead-requires c κs =
     let z = c .before .before .before .before in
     let s = z .pre .0 .valid .sides in
-    rw (z .pre .1) (z .pre .0 .valid, λ h. omega (arith, z .pre .0 .post, s .wide, east-post s (z .args .p) (z .pre .0 .post) (not-true _ h)))
+    rw (z .pre .1) (z .pre .0 .valid, λ h. (omega (arith, east-post s (z .args .p) (z .pre .0 .post) (not-true _ h)), omega arith, z .pre .2 ∙ as-told _ (z .args .p + 1) (z .args .p) (east-told s (z .args .p) _ (not-true _ h) refl .first) refl (omega arith)))
 
 add-ahead-2 : tie.Need-add-ahead-2
 add-ahead-2 c = omega (arith, c .before .before .before .before .before .before .pre .0 .post, c .before .before .before .before .before .before .pre .0 .valid .sides)
@@ -33,13 +36,14 @@ ahead-requires-2 : tie.Need-ahead-requires-2
 ahead-requires-2 c κs =
     let z = c .before .before .before .before .before .before in
     let s = z .pre .0 .valid .sides in
-    rw (z .pre .1) (z .pre .0 .valid, λ h. omega (arith, z .pre .0 .post, s .wide, cell-se s (z .args .p) (z .pre .0 .post) h))
+    rw (z .pre .1) (z .pre .0 .valid, λ h. (omega (arith, cell-se s (z .args .p) (z .pre .0 .post) h .posts), omega arith, sym (far-told s _ _ (omega arith) .second)))
 
 ahead-requires-3 : tie.Need-ahead-requires-3
 ahead-requires-3 c κs =
     let z = c .before .before .before .before .before .before .before in
     let s = z .pre .0 .valid .sides in
-    rw (z .pre .1) (z .pre .0 .valid, λ h. omega (arith, z .pre .0 .post, s .wide, cell-se s (z .args .p) (z .pre .0 .post) h))
+    rw (z .pre .1)
+    (z .pre .0 .valid, λ h. (omega (arith, cell-se s (z .args .p) (z .pre .0 .post) h .posts), omega arith, ap not (z .pre .2) ∙ as-told _ _ _ (south-told s (z .args .p) (both (right (z .args .grid .columns) (z .args .p)) (bottom (z .args .grid .rows) (z .args .grid .columns) (z .args .p)) h .0) .first) refl (omega arith)))
 
 returns : tie.Need-returns
 unfolding eastPair

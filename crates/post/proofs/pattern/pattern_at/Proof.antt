@@ -28,7 +28,7 @@ add-result-3 c =
 returns : tie.Need-returns
 returns c =
     rw (
-      pattern-flags (c .before .before .before .before .before .pre),
+      pattern-flags (c .before .before .before .before .before .before .pre),
       c .west-pair .ensures .0,
       c .before .south-pair .ensures .0,
       c .before .before .east-pair .ensures .0,
@@ -41,10 +41,11 @@ pattern-at-spec =
     tie.close
     (tie.spec
     (search needs)
-    (λ c κs. (c .before .pre, c .borders-of .ensures))
+    (λ c κs. omega (arith, c .before .pre .valid .sides))
     (λ c κs. (c .before .before .pre, c .before .borders-of .ensures))
-    (λ c κs. (c .before .before .before .pre, c .before .before .borders-of .ensures))
+    (λ c κs. (c .before .before .before .pre, c .before .before .borders-of .ensures, c .before .is-odd-row .ensures))
     (λ c κs. (c .before .before .before .before .pre, c .before .before .before .borders-of .ensures))
+    (λ c κs. (c .before .before .before .before .before .pre, c .before .before .before .before .borders-of .ensures, c .before .before .before .is-odd-row .ensures))
     (λ c. omega (arith, c .before .south-pair .ensures .1))
     (λ c. omega (arith, c .before .south-pair .ensures .1, c .before .before .east-pair .ensures .1))
     (λ c. omega (arith, c .before .south-pair .ensures .1, c .before .before .east-pair .ensures .1))

@@ -1,13 +1,15 @@
 -- A side and a corner, each compared where it is there.
 use native.Mathlib.Omega.{arith}
-use mathlib.Core.Path.{refl, _∙_}
+use Prim.Native.Nat.{_+_, _-_}
+use mathlib.Core.Path.{refl, sym, _∙_}
 use borrow.Author.Needs.{needs}
 use borrow.Author.Tests.{not-true}
 use Rattle.surface.specs.Edges.{bottom, left}
 use Rattle.surface.specs.Flags.{southPair}
 use Rattle.surface.proofs.AnyOrder.Grid.{bottom-false, not-left}
-use Rattle.post.proofs.Around.{cell-sw}
-use Rattle.post.proofs.Paired.{same, paired}
+use Rattle.surface.proofs.OfPlots.Driven.{far-told, corner-told}
+use Rattle.post.proofs.Around.{both, cell-sw}
+use Rattle.post.proofs.Paired.{same, as-told, paired}
 use Rattle.post.proofs.pattern.south_pair.Statement.{statement}
 use Rattle.post.proofs.pattern.south_pair.Tie as tie
 
@@ -24,7 +26,7 @@ ahead-requires : tie.Need-ahead-requires
 ahead-requires c κs =
     let z = c .before .before .before .before .before in
     let s = z .pre .0 .valid .sides in
-    rw (z .pre .1) (z .pre .0 .valid, λ h. omega (arith, z .pre .0 .post, s .wide, bottom-false s (z .args .p) (z .pre .0 .post) .0 (not-true _ h)))
+    rw (z .pre .1) (z .pre .0 .valid, λ h. (omega (arith, bottom-false s (z .args .p) (z .pre .0 .post) .0 (not-true _ h)), omega arith, sym (far-told s _ _ (omega arith) .second)))
 
 sub-ahead : tie.Need-sub-ahead
 sub-ahead c = omega (arith, c .before .before .before .before .before .before .before .pre .0 .post, c .before .before .before .before .before .before .before .pre .0 .valid .sides)
@@ -33,13 +35,17 @@ ahead-requires-2 : tie.Need-ahead-requires-2
 ahead-requires-2 c κs =
     let z = c .before .before .before .before .before .before .before in
     let s = z .pre .0 .valid .sides in
-    rw (z .pre .1) (z .pre .0 .valid, λ h. omega (arith, z .pre .0 .post, s .wide, cell-sw s (z .args .p) (z .pre .0 .post) h))
+    let p = z .args .p in
+    let k = z .args .grid .columns in
+    rw (z .pre .1)
+    (z .pre .0 .valid, λ h. (omega (arith, cell-sw s p (z .pre .0 .post) h), omega (arith, s .wide), as-told _ (p + k - 1) p (corner-told s p (p + k - 1) (both (bottom (z .args .grid .rows) k p) (left k p) h .1) (omega (arith, s .wide)) .second) refl (omega (arith, s .wide))))
 
 ahead-requires-3 : tie.Need-ahead-requires-3
 ahead-requires-3 c κs =
     let z = c .before .before .before .before .before .before .before .before in
     let s = z .pre .0 .valid .sides in
-    rw (z .pre .1) (z .pre .0 .valid, λ h. omega (arith, z .pre .0 .post, s .wide, cell-sw s (z .args .p) (z .pre .0 .post) h))
+    rw (z .pre .1)
+    (z .pre .0 .valid, λ h. let w = cell-sw s (z .args .p) (z .pre .0 .post) h in (omega (arith, w), omega (arith, w), sym (far-told s _ _ (omega (arith, w)) .second)))
 
 returns : tie.Need-returns
 unfolding southPair

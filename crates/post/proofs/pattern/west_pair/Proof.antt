@@ -1,11 +1,13 @@
 -- A side and a corner, the corner compared where it is there.
 use native.Mathlib.Omega.{arith}
-use mathlib.Core.Path.{_∙_}
+use mathlib.Core.Path.{refl, sym, _∙_}
 use borrow.Author.Needs.{needs}
 use Rattle.surface.specs.Edges.{left, top}
 use Rattle.surface.specs.Flags.{westPair}
-use Rattle.post.proofs.Around.{cell-nw}
-use Rattle.post.proofs.Paired.{same, corner-paired}
+use Rattle.surface.proofs.General.Bools.{not-not}
+use Rattle.surface.proofs.OfPlots.Driven.{far-told, north-told}
+use Rattle.post.proofs.Around.{both, cell-nw}
+use Rattle.post.proofs.Paired.{same, as-told, corner-paired}
 use Rattle.post.proofs.pattern.west_pair.Statement.{statement}
 use Rattle.post.proofs.pattern.west_pair.Tie as tie
 
@@ -19,13 +21,19 @@ back-requires : tie.Need-back-requires
 back-requires c κs =
     let z = c .before .before .before .before in
     let s = z .pre .0 .valid .sides in
-    rw (z .pre .1) (z .pre .0 .valid, λ h. omega (arith, z .pre .0 .post, s .wide, cell-nw s (z .args .p) (z .pre .0 .post) h))
+    rw (z .pre .1)
+    (z .pre .0 .valid, λ h. let n = cell-nw s (z .args .p) (z .pre .0 .post) h .from in (z .pre .0 .post, omega arith, sym (far-told s _ _ (omega arith) .first)))
 
 back-requires-2 : tie.Need-back-requires-2
 back-requires-2 c κs =
     let z = c .before .before .before .before .before in
     let s = z .pre .0 .valid .sides in
-    rw (z .pre .1) (z .pre .0 .valid, λ h. omega (arith, z .pre .0 .post, s .wide, cell-nw s (z .args .p) (z .pre .0 .post) h))
+    rw (z .pre .1) (
+      z .pre .0 .valid,
+      λ h.
+          let b = both _ _ h in
+          (z .pre .0 .post, omega (arith, cell-nw s (z .args .p) (z .pre .0 .post) h .from), z .pre .2 ∙ as-told _ _ _ (north-told s (z .args .p) (b .0) (b .1) .second ∙ not-not _) refl refl),
+    )
 
 returns : tie.Need-returns
 unfolding westPair

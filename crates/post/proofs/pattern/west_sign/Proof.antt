@@ -1,12 +1,13 @@
 -- Compared where it is there; at the first post S is.
 use native.Mathlib.Omega.{arith}
-use mathlib.Core.Path.{_≡_, refl}
-use mathlib.Core.Bool.{true, _&&_}
+use mathlib.Core.Path.{_≡_, refl, sym, ap, _∙_}
+use mathlib.Core.Bool.{true, not, _&&_}
 use borrow.Author.Tests.{not-true}
 use Rattle.surface.specs.Edges.{top, bottom, left}
 use Rattle.surface.specs.Flags.{westSign}
 use Rattle.surface.proofs.AnyOrder.Grid.{bottom-false, not-left}
-use Rattle.post.proofs.Paired.{same, side-or}
+use Rattle.surface.proofs.OfPlots.Driven.{far-told, west-told}
+use Rattle.post.proofs.Paired.{same, as-told, side-or}
 use Rattle.post.proofs.pattern.west_sign.Statement.{statement}
 use Rattle.post.proofs.pattern.west_sign.Tie as tie
 
@@ -17,7 +18,7 @@ ahead-requires : tie.Need-ahead-requires
 ahead-requires c κs =
     let z = c .before .before .before .before in
     let s = z .pre .0 .valid .sides in
-    rw (z .pre .1) (z .pre .0 .valid, λ h. omega (arith, z .pre .0 .post, s .wide, bottom-false s (z .args .p) (z .pre .0 .post) .0 (not-true _ h)))
+    rw (z .pre .1) (z .pre .0 .valid, λ h. (omega (arith, bottom-false s (z .args .p) (z .pre .0 .post) .0 (not-true _ h)), omega arith, sym (far-told s _ _ (omega arith) .second)))
 
 returns : tie.Need-returns
 unfolding westSign
@@ -30,7 +31,7 @@ back-requires : tie.Need-back-requires
 back-requires c κs =
     let z = c .before .before .before in
     let s = z .pre .0 .valid .sides in
-    rw (z .pre .1) (z .pre .0 .valid, λ h. omega (arith, z .pre .0 .post, s .wide, not-left s (z .args .p) (not-true _ h)))
+    rw (z .pre .1) (z .pre .0 .valid, λ h. (z .pre .0 .post, omega (arith, not-left s (z .args .p) (not-true _ h)), ap not (z .pre .2) ∙ as-told _ _ _ (west-told s (z .args .p) (not-true _ h) .second) (omega arith) (omega arith)))
 
 returns-2 : tie.Need-returns-2
 unfolding westSign
