@@ -57,17 +57,11 @@ pub fn is_below_by(heights: &[i32], grid: Grid, p: usize, q: usize, tie: bool) -
     heights[p] < heights[q] + tie as i32
 }
 
-// Vertex p, a post or the virtual pit, is below vertex q.
-pub fn is_below(heights: &[i32], grid: Grid, p: usize, q: usize) -> bool
-    requires { ⌜ Valid (plotOf grid (now heights)) × Vertex (posts (plotOf grid (now heights))) p × Vertex (posts (plotOf grid (now heights))) q ⌝ }
+// Post p is below post q. Rows are looked at only where heights are equal: dividing takes longer than a branch.
+fn is_below_post(heights: &[i32], grid: Grid, p: usize, q: usize) -> bool
+    requires { ⌜ PostOf (plotOf grid (now heights)) p × PostOf (plotOf grid (now heights)) q ⌝ }
     ensures { λ r. ⌜ r ≡ below (plotOf grid (now (heights .entry))) p q ⌝ }
 {
-    if q == VIRTUAL_PIT {
-        return false;
-    }
-    if p == VIRTUAL_PIT {
-        return true;
-    }
     if is_less(heights, p, q) {
         return true;
     }
@@ -75,6 +69,20 @@ pub fn is_below(heights: &[i32], grid: Grid, p: usize, q: usize) -> bool
         return false;
     }
     is_driven_before(grid, p, q)
+}
+
+// Vertex p, a post or the virtual pit, is below vertex q.
+pub fn is_below(heights: &[i32], grid: Grid, p: usize, q: usize) -> bool
+    requires { ⌜ Valid (plotOf grid (now heights)) × Vertex (posts (plotOf grid (now heights))) p × Vertex (posts (plotOf grid (now heights))) q ⌝ }
+    ensures { λ r. ⌜ r ≡ below (plotOf grid (now (heights .entry))) p q ⌝ }
+{
+    if p == VIRTUAL_PIT {
+        return q != VIRTUAL_PIT;
+    }
+    if q == VIRTUAL_PIT {
+        return false;
+    }
+    is_below_post(heights, grid, p, q)
 }
 
 // Vertex q is a post, and of p's height.

@@ -1,9 +1,11 @@
 -- At most six turns, and a number below 256.
-use Prim.Native.Nat.{_*_, _≤_}
+use Prim.Native.Nat.{_-_, _*_, _≤_}
 use native.Mathlib.Omega.{arith}
 use native.Mathlib.Nat.{mul-le-mul-right}
-use mathlib.Core.Bool.{not}
+use mathlib.Core.Path.{_≡_, ap, _∙_}
+use mathlib.Core.Bool.{Bool, cond, not}
 use lib.Dec.{eqb}
+use Rattle.surface.specs.Flags.{flipped}
 use Rattle.surface.proofs.General.Bools.{xor-flipped}
 use Rattle.order.proofs.tie_place.Statement.{statement}
 use Rattle.order.proofs.tie_place.Tie as tie
@@ -14,10 +16,12 @@ above c = mul-le-mul-right (c .before .args .grid .columns) (c .before .pre .1)
 
 returns : tie.Need-returns
 returns c =
-    let z = c .before .before in (
-      rw (c .turns-back .ensures .0, xor-flipped (z .args .odd) (not (eqb (z .args .down) 1))),
-      omega (arith, above (c .before), z .pre, c .turns-back .ensures .1),
-    )
+    let z = c .before .before in
+    let turned = xor-flipped (z .args .odd) (not (eqb (z .args .down) 1)) in
+    let t : c .turns-back .result ≡ cond (flipped (not (eqb (z .args .down) 1)) (z .args .odd)) (2 - z .args .along) 0 =
+    c .turns-back .ensures .0 ∙ ap (λ (b : Bool). cond b (2 - z .args .along) 0) turned
+    in
+    (rw t, omega (arith, above (c .before), z .pre, c .turns-back .ensures .1))
 
 pub tie-place-spec : {M : Type 1} → statement M
 tie-place-spec =
