@@ -17,6 +17,11 @@ ghost use Rattle.order.specs.Ties.{Drives, placeAt};
 // How many posts are compared at once.
 const BLOCK: usize = 16;
 
+// The tie of a post in a row to the north of another's, and of one to the south: where heights are equal, the first is below and the second is not.
+pub const NORTH: bool = true;
+
+pub const SOUTH: bool = false;
+
 // The height of p is less than that of q.
 fn is_less(heights: &[i32], p: usize, q: usize) -> bool
     requires { ⌜ (p < length (now heights)) × (q < length (now heights)) ⌝ }
@@ -216,16 +221,8 @@ pub fn east_row(heights: &[i32], grid: Grid, base: usize, odd: bool, flags: &mut
     requires { ⌜ Valid (plotOf grid (now heights)) × (column (grid .columns) base ≡ 0) × (odd ≡ isOdd (row (grid .columns) base)) × (base + grid .columns ≤ posts (plotOf grid (now heights))) × (grid .columns ≤ length (now flags)) ⌝ }
     ensures { λ _. ⌜ now (flags .exit) ≡ stores (λ k. below (plotOf grid (now (heights .entry))) (base + 1 + (k - 1)) (base + (k - 1))) 1 (grid .columns - 1) (now (flags .entry)) ⌝ }
 {
-    later_row(
-        heights,
-        grid,
-        base,
-        base + 1,
-        odd,
-        flags,
-        1,
-        grid.columns - 1,
-    );
+    let n = grid.columns - 1;
+    later_row(heights, grid, base, base + 1, odd, flags, 1, n);
 }
 
 // The turns that the place of a post has for its column: in a row that is `turned`, driven from its last column, one for each of the three that follows.

@@ -1,4 +1,5 @@
 // The patterns of a whole plot, a row at a time, by rows of comparisons of the posts that touch.
+use order::SOUTH;
 use order::east_row;
 use order::is_below_by;
 use order::later_row;
@@ -61,9 +62,9 @@ fn south_rows(
     let columns = grid.columns;
     let next = base + columns;
     if next < heights.len() {
-        later_row(heights, grid, base, next, false, south, 1, columns);
-        later_row(heights, grid, base, next + 1, false, fall, 1, columns - 1);
-        later_row(heights, grid, base + 1, next, false, rise, 1, columns - 1);
+        later_row(heights, grid, base, next, SOUTH, south, 1, columns);
+        later_row(heights, grid, base, next + 1, SOUTH, fall, 1, columns - 1);
+        later_row(heights, grid, base + 1, next, SOUTH, rise, 1, columns - 1);
         east_row(heights, grid, next, !odd, under);
         return;
     }
@@ -165,7 +166,7 @@ fn top_row(
     let columns = grid.columns;
     south[columns + 1] = true;
     under[columns] = true;
-    under[0] = !is_below_by(heights, grid, columns, 0, false);
+    under[0] = !is_below_by(heights, grid, columns, 0, SOUTH);
     east_row(heights, grid, 0, false, under);
     upper_row(side, south, fall, rise, under, grid.highest, upper, width);
     under[0] = false;

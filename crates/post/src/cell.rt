@@ -1,4 +1,5 @@
 // The diagonal of a cell of four posts.
+use order::SOUTH;
 use order::is_below_by;
 use order::is_odd_row;
 use surface::Grid;
@@ -20,9 +21,9 @@ fn falls(heights: &[i32], grid: Grid, a: usize, turned: bool) -> bool
     let across = south + 1;
     let odd = is_odd_row(grid, a);
     let e = is_below_by(heights, grid, east, a, odd) ^ turned;
-    let s = is_below_by(heights, grid, south, a, false) ^ turned;
-    let se = is_below_by(heights, grid, across, a, false) ^ turned;
-    let east_s = is_below_by(heights, grid, across, east, false) ^ turned;
+    let s = is_below_by(heights, grid, south, a, SOUTH) ^ turned;
+    let se = is_below_by(heights, grid, across, a, SOUTH) ^ turned;
+    let east_s = is_below_by(heights, grid, across, east, SOUTH) ^ turned;
     let south_e = is_below_by(heights, grid, across, south, !odd) ^ turned;
     !e & !s & !se | se & east_s & south_e
 }

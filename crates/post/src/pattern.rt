@@ -2,6 +2,8 @@
 // carries the sign of the last member before it. The diagonals need not be known: comparisons of the posts tell the sign at a corner.
 use crate::border::Borders;
 use crate::border::borders_of;
+use order::NORTH;
+use order::SOUTH;
 use order::is_below_by;
 use order::is_odd_row;
 use surface::Grid;
@@ -93,7 +95,7 @@ fn ahead(heights: &[i32], grid: Grid, p: usize, d: usize, tie: bool, there: bool
     true
 }
 
-// The pair of E and SE of p, which stands at these borders, in an odd row or not. Between rows the lower row is below where heights are equal.
+// The pair of E and SE of p, which stands at these borders, in an odd row or not.
 fn east_pair(heights: &[i32], grid: Grid, p: usize, at: Borders, odd: bool) -> u8
     requires { ⌜ PostOf (plotOf grid (now heights)) p × (at ≡ bordersOf (grid .rows) (grid .columns) p) × (odd ≡ isOdd (row (grid .columns) p)) ⌝ }
     ensures { λ r. ⌜ (r ≡ eastPair (plotOf grid (now (heights .entry))) p) × (r ≤ 3) ⌝ }
@@ -101,7 +103,7 @@ fn east_pair(heights: &[i32], grid: Grid, p: usize, at: Borders, odd: bool) -> u
     let across = p + grid.columns + 1;
     let there = !at.right & !at.bottom;
     let e = ahead(heights, grid, p + 1, 1, odd, !at.right);
-    let se = ahead(heights, grid, across, grid.columns + 1, false, there);
+    let se = ahead(heights, grid, across, grid.columns + 1, SOUTH, there);
     let after = ahead(heights, grid, across, 1, !odd, there);
     pair(e, se, !at.bottom & after, grid.highest)
 }
@@ -113,16 +115,10 @@ fn south_pair(heights: &[i32], grid: Grid, p: usize, at: Borders) -> u8
 {
     let across = p + grid.columns - 1;
     let there = !at.bottom & !at.left;
-    let s = ahead(
-        heights,
-        grid,
-        p + grid.columns,
-        grid.columns,
-        false,
-        !at.bottom,
-    );
-    let sw = ahead(heights, grid, across, grid.columns - 1, false, there);
-    let after = ahead(heights, grid, across, grid.columns, false, there);
+    let south = p + grid.columns;
+    let s = ahead(heights, grid, south, grid.columns, SOUTH, !at.bottom);
+    let sw = ahead(heights, grid, across, grid.columns - 1, SOUTH, there);
+    let after = ahead(heights, grid, across, grid.columns, SOUTH, there);
     pair(s, sw, !at.left & after, grid.highest)
 }
 
@@ -132,9 +128,9 @@ fn north_pair(heights: &[i32], grid: Grid, p: usize, at: Borders) -> u8
     ensures { λ r. ⌜ (r ≡ northPair (plotOf grid (now (heights .entry))) p) × (r ≤ 3) ⌝ }
 {
     let there = !at.top & !at.right;
-    let n = back(heights, grid, p, 0, grid.columns, true, !at.top);
-    let ne = back(heights, grid, p, 0, grid.columns - 1, true, there);
-    let after = back(heights, grid, p + 1, 0, grid.columns, true, there);
+    let n = back(heights, grid, p, 0, grid.columns, NORTH, !at.top);
+    let ne = back(heights, grid, p, 0, grid.columns - 1, NORTH, there);
+    let after = back(heights, grid, p + 1, 0, grid.columns, NORTH, there);
     pair(n, ne, !at.right & after, grid.highest)
 }
 
@@ -144,14 +140,8 @@ fn west_sign(heights: &[i32], grid: Grid, p: usize, at: Borders, odd: bool) -> b
     ensures { λ r. ⌜ r ≡ westSign (plotOf grid (now (heights .entry))) p ⌝ }
 {
     if at.top & at.left {
-        return ahead(
-            heights,
-            grid,
-            p + grid.columns,
-            grid.columns,
-            false,
-            !at.bottom,
-        );
+        let south = p + grid.columns;
+        return ahead(heights, grid, south, grid.columns, SOUTH, !at.bottom);
     }
     back(heights, grid, p, 0, 1, !odd, !at.left)
 }
@@ -163,7 +153,7 @@ fn west_pair(heights: &[i32], grid: Grid, p: usize, at: Borders, odd: bool) -> u
 {
     let there = !at.left & !at.top;
     let w = west_sign(heights, grid, p, at, odd);
-    let nw = back(heights, grid, p, 0, grid.columns + 1, true, there);
+    let nw = back(heights, grid, p, 0, grid.columns + 1, NORTH, there);
     let after = back(heights, grid, p, grid.columns, 1, odd, there);
     pair(w, nw, !at.top & after, grid.highest)
 }

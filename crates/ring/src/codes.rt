@@ -9,17 +9,24 @@ ghost use mathlib.Core.Path.{_≡_};
 ghost use lib.ListN.{length, getD};
 ghost use Rattle.surface.specs.Plot.{plotOf, posts, Vertex, PostOf};
 ghost use Rattle.surface.specs.Edges.{ringOf};
-ghost use Rattle.surface.specs.Codes.{memberCode, codesOf, ringLength, ringBytes};
+ghost use Rattle.surface.specs.Codes.{codeFor, memberCode, codesOf, ringLength, ringBytes};
 ghost use Rattle.post.specs.Rings.{Holds};
 
-// Vertex q as seen from p: 1 above it, 3 below it, and one more where their heights are equal.
+// A code: 1 above, 3 below, and one more where heights are equal.
+fn code_by(below: bool, tied: bool) -> u8
+    ensures { λ r. ⌜ r ≡ codeFor below tied ⌝ }
+{
+    1 + 2 * below as u8 + tied as u8
+}
+
+// The code of vertex q as seen from p.
 fn code_of(heights: &[i32], grid: Grid, p: usize, q: usize) -> u8
     requires { ⌜ PostOf (plotOf grid (now heights)) p × Vertex (posts (plotOf grid (now heights))) q ⌝ }
     ensures { λ r. ⌜ r ≡ memberCode (plotOf grid (now (heights .entry))) p q ⌝ }
 {
     let below = is_below(heights, grid, q, p);
     let tied = is_tied(heights, grid, p, q);
-    1 + 2 * below as u8 + tied as u8
+    code_by(below, tied)
 }
 
 // The code of member i of p's ring, 0 past its end.

@@ -20,12 +20,6 @@ along {rows} {columns} s base e =
           east-told s (base + k) (base + 1 + k) (right-false s (base + k) .1 (omega arith)) (omega arith) .first ∙ rw i;
     }
 
-add-later-row : tie.Need-add-later-row
-add-later-row c = omega (arith, c .before .pre .0 .sides)
-
-sub-later-row : tie.Need-sub-later-row
-sub-later-row c = omega (arith, c .before .before .before .pre .0 .sides)
-
 later-row-requires : tie.Need-later-row-requires
 later-row-requires c κs =
     let start = c .before .before .before in
@@ -36,4 +30,4 @@ returns : tie.Need-returns
 returns c = c .before .before .later-row .ensures
 
 pub east-row-spec : {M : Type 1} → statement M
-east-row-spec = tie.close (tie.spec add-later-row sub-later-row later-row-requires (search needs) returns)
+east-row-spec = tie.close (tie.spec (λ c. omega (arith, c .before .before .pre .0 .sides)) (λ c. omega (arith, c .before .before .pre .0 .sides)) later-row-requires (search needs) returns)

@@ -4,7 +4,7 @@ use native.Mathlib.Nat.{add-mul, one-mul}
 use native.Mathlib.Omega.{arith}
 use mathlib.Core.Path.{_≡_, refl, sym, _∙_}
 use mathlib.Core.Bool.{Bool, true, false, not}
-use lib.Dec.{ltb}
+use lib.Dec.{ltb, eqb}
 use borrow.Author.Tests.{ltb-true, ltb-false, lt-ltb, le-ltb, eqb-true, eqb-false, eq-eqb, ne-eqb}
 use Rattle.surface.specs.Plot.{row, column, directed, isOdd, drivenBefore, Sides}
 use Rattle.surface.specs.Edges.{top, left, right}
@@ -75,8 +75,14 @@ module _ (columns : ℕ) where
       go false = by-column p q e
 
 -- parities of rows that follow each other
+other-rest : (n k : ℕ) → k ≤ 1 → eqb ((n + 1) % 2) k ≡ not (eqb (n % 2) k)
+other-rest n k h =
+    either (eqb (n % 2) k)
+    (λ e. rw e (ne-eqb ((n + 1) % 2) k (omega (arith, eqb-true (n % 2) k e))))
+    (λ e. rw e (eq-eqb ((n + 1) % 2) k (omega (arith, eqb-false (n % 2) k e))))
+
 pub odd-next : (n : ℕ) → isOdd (n + 1) ≡ not (isOdd n)
-odd-next n = either (isOdd n) (λ e. rw e (ne-eqb ((n + 1) % 2) 1 (omega (arith, eqb-true (n % 2) 1 e)))) (λ e. rw e (eq-eqb ((n + 1) % 2) 1 (omega (arith, eqb-false (n % 2) 1 e))))
+odd-next n = other-rest n _ (omega arith)
 
 -- of two posts, which is driven past before the other
 pub record Told (columns p q : ℕ) (before : Bool) : Type 0 where

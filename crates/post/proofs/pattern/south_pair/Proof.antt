@@ -19,8 +19,8 @@ add-across c = omega (arith, c .before .pre .0 .post, c .before .pre .0 .valid .
 sub-across : tie.Need-sub-across
 sub-across c = omega (arith, c .before .pre .0 .post, c .before .pre .0 .valid .sides)
 
-add-ahead : tie.Need-add-ahead
-add-ahead c = omega (arith, c .before .before .before .before .pre .0 .post, c .before .before .before .before .pre .0 .valid .sides)
+add-south : tie.Need-add-south
+add-south c = omega (arith, c .before .before .before .before .pre .0 .post, c .before .before .before .before .pre .0 .valid .sides)
 
 ahead-requires : tie.Need-ahead-requires
 ahead-requires c κs =
@@ -60,4 +60,4 @@ returns c =
 
 pub south-pair-spec : {M : Type 1} → statement M
 south-pair-spec =
-    tie.close (tie.spec add-across sub-across add-ahead ahead-requires sub-ahead ahead-requires-2 ahead-requires-3 (search needs) returns)
+    tie.close (tie.spec add-across sub-across add-south ahead-requires sub-ahead ahead-requires-2 ahead-requires-3 (search needs) returns)

@@ -11,8 +11,8 @@ use Rattle.post.proofs.Paired.{same, as-told, side-or}
 use Rattle.post.proofs.pattern.west_sign.Statement.{statement}
 use Rattle.post.proofs.pattern.west_sign.Tie as tie
 
-add-ahead : tie.Need-add-ahead
-add-ahead c = omega (arith, c .before .before .before .pre .0 .post, c .before .before .before .pre .0 .valid .sides)
+add-south : tie.Need-add-south
+add-south c = omega (arith, c .before .before .before .pre .0 .post, c .before .before .before .pre .0 .valid .sides)
 
 ahead-requires : tie.Need-ahead-requires
 ahead-requires c κs =
@@ -41,4 +41,4 @@ returns-2 c =
     rw (c .back .ensures, z .pre .1, k) (side-or (left (z .args .grid .columns) (z .args .p)) _ _ (λ i. same _ (omega arith) (omega arith)))
 
 pub west-sign-spec : {M : Type 1} → statement M
-west-sign-spec = tie.close (tie.spec add-ahead ahead-requires returns back-requires returns-2)
+west-sign-spec = tie.close (tie.spec add-south ahead-requires returns back-requires returns-2)
