@@ -8,6 +8,7 @@ mod patterns;
 mod refusals;
 mod series;
 mod sheets;
+mod ties;
 mod whole_plots;
 
 use crate::call::{Call, Kind};
@@ -18,6 +19,7 @@ use crate::tester::{law, Outcome, Tester};
 
 pub fn all(t: &mut Tester, chance: &mut Chance, long: bool) {
     let times = if long { 20 } else { 1 };
+    ties::ties(t);
     bench_plots::bench_plots(t);
     refusals::refusals(t, chance, 12 * times);
     refusals::ring_lists(t, chance);

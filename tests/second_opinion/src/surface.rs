@@ -54,12 +54,24 @@ impl Plot<'_> {
         PLACES.iter().filter_map(|&(r, c)| self.at(post, r, c)).collect()
     }
 
-    /// Is p below q in the height order?
+    /// Is p below q in the height order? Equal heights are ordered as driven, to and fro: the
+    /// lower row is below, within an even row the lower column, within an odd one the higher.
     pub fn below(&self, p: usize, q: usize) -> bool {
         if p == VIRTUAL_PIT || q == VIRTUAL_PIT {
             return p == VIRTUAL_PIT && q != VIRTUAL_PIT;
         }
-        (self.heights[p], p) < (self.heights[q], q)
+        if self.heights[p] != self.heights[q] {
+            return self.heights[p] < self.heights[q];
+        }
+        let [(row, column), (other_row, other_column)] =
+            [p, q].map(|post| (post / self.columns, post % self.columns));
+        if row != other_row {
+            row < other_row
+        } else if row % 2 == 0 {
+            column < other_column
+        } else {
+            column > other_column
+        }
     }
 
     /// Is it a move this way from p to q?

@@ -175,11 +175,13 @@ fn every_plot(rows: usize, columns: usize, levels: i32) -> impl Iterator<Item = 
     (0..levels.pow(posts)).map(move |n| (0..posts).map(|p| n / levels.pow(p) % levels).collect())
 }
 
-/// Every plot of a size over so many heights, by each rule.
+/// Every plot of a size over so many heights, by each rule. Three rows have a post off the
+/// border in an odd row, four also one in an even row; few heights make many ties.
 pub fn exhaustive(t: &mut Tester, chance: &mut Chance, long: bool) {
-    let mut sizes = vec![(2, 2, 4), (2, 3, 4), (3, 2, 4), (3, 3, 3), (2, 4, 2), (4, 2, 2)];
+    let mut sizes =
+        vec![(2, 2, 4), (2, 3, 4), (3, 2, 4), (3, 3, 3), (2, 4, 2), (4, 2, 2), (4, 3, 2)];
     if long {
-        sizes.extend([(3, 3, 4), (3, 4, 2), (4, 3, 2), (4, 4, 2), (2, 4, 3), (4, 2, 3)]);
+        sizes.extend([(3, 3, 4), (3, 4, 2), (4, 4, 2), (2, 4, 3), (4, 2, 3)]);
     }
     for (rows, columns, levels) in sizes {
         t.group(&format!("all plots {rows} by {columns} over {levels} heights"));
@@ -256,9 +258,12 @@ fn walk(plot: &Plot, mut post: usize, way: Way) -> usize {
 /// What one rule cuts, the other cuts in the plot turned upside down.
 pub fn upside_down(t: &mut Tester, chance: &mut Chance, times: usize) {
     t.group("plots upside down by the other rule");
-    for heights in every_plot(3, 3, 3) {
-        let plot = Plot { rule: Rule::Highest, rows: 3, columns: 3, heights: &heights };
-        t.case(turned(t, &plot, chance));
+    // With an even number of rows the drive ends on the side where it starts.
+    for (rows, columns, levels) in [(3, 3, 3), (4, 3, 2)] {
+        for heights in every_plot(rows, columns, levels) {
+            let plot = Plot { rule: Rule::Highest, rows, columns, heights: &heights };
+            t.case(turned(t, &plot, chance));
+        }
     }
     for i in 0..times {
         let (rows, columns, heights) = any_plot(i, 12, chance);
@@ -267,27 +272,34 @@ pub fn upside_down(t: &mut Tester, chance: &mut Chance, times: usize) {
     }
 }
 
-/// The plot beside itself with its heights negated and its posts in reverse order, so that
-/// ties turn too, by the first rule: off the border, where no ring has the virtual pit, peaks
-/// and pits change places and saddles stay what they are, as do next down and next up.
+/// The plot beside itself with its heights negated and driven from its end to its start, so
+/// that ties turn too, by the first rule: off the border, where no ring has the virtual pit,
+/// peaks and pits change places and saddles stay what they are, as do next down and next up.
 fn turned(t: &Tester, plot: &Plot, chance: &mut Chance) -> Outcome {
-    let heights: Vec<i32> = plot.heights.iter().rev().map(|h| -h).collect();
+    let there = |post: usize| driven(plot, plot.posts() - 1 - driven(plot, post));
+    let heights: Vec<i32> = (0..plot.posts()).map(|post| -plot.heights[there(post)]).collect();
     let other = Plot { rule: Rule::Lowest, heights: &heights, ..*plot };
     let (marks, others) = (survey(t, plot, chance)?, survey(t, &other, chance)?);
     for post in (0..plot.posts()).filter(|&post| !plot.ring(post).contains(&VIRTUAL_PIT)) {
-        let there = plot.posts() - 1 - post;
-        let mark = match others[there] {
+        let mark = match others[there(post)] {
             1 => 2,
             2 => 1,
             mark => mark,
         };
         for (one, another) in [(Kind::NextDown, Kind::NextUp), (Kind::NextUp, Kind::NextDown)] {
             let call = Call { post: post as u32, ..good(one, plot, chance) };
-            let turned = Call { post: there as u32, ..good(another, &other, chance) };
+            let turned = Call { post: there(post) as u32, ..good(another, &other, chance) };
             let (next, other) = (t.agree(&call)?.0[2], t.agree(&turned)?.0[2]);
             law(marks[post] == mark, "a mark upside down", &call)?;
-            law((next + other) as usize == plot.posts() - 1, "a step upside down", &call)?;
+            law(there(next as usize) == other as usize, "a step upside down", &call)?;
         }
     }
     Ok(())
+}
+
+/// How many posts are driven before this one; so also the post before which so many are.
+fn driven(plot: &Plot, post: usize) -> usize {
+    let (row, column) = (post / plot.columns, post % plot.columns);
+    let before = if row % 2 == 0 { column } else { plot.columns - 1 - column };
+    row * plot.columns + before
 }
