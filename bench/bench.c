@@ -51,8 +51,8 @@ static const calls builds[BUILDS] = {CALLS(sn), CALLS(scalar), CALLS(vector)};
 
 /* ---- plots ---- */
 
-enum { RANDOM, NEAR_LEVEL, FLAT, SPIRAL, CHECKERBOARD, SMOOTH, KINDS };
-static const char *const kind_names[KINDS] = {"random", "near level", "flat",
+enum { RANDOM, NEAR_LEVEL, FLAT, TERRACES, SPIRAL, CHECKERBOARD, SMOOTH, KINDS };
+static const char *const kind_names[KINDS] = {"random", "near level", "flat", "terraces",
                                               "spiral", "checkerboard", "smooth"};
 
 static uint64_t seed;
@@ -98,6 +98,8 @@ static void fill(int32_t *heights, int side, int kind)
         switch (kind) {
         case RANDOM: heights[p] = (int32_t)chance(2000001) - 1000000; break;
         case NEAR_LEVEL: heights[p] = chance(8) ? 0 : (int32_t)chance(3) - 1; break;
+        /* Steps of eight rows, level channels along the odd ones. */
+        case TERRACES: heights[p] = r / 8 * 10 - r % 2 * 5; break;
         case CHECKERBOARD: heights[p] = (r + c) % 2; break;
         case SMOOTH: heights[p] = (int32_t)(3000 * (sin(r * 0.11) + cos(c * 0.07 + r * 0.02))); break;
         default: heights[p] = 0;
