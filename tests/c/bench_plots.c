@@ -119,11 +119,11 @@ typedef struct {
     uint16_t dales[9], hills[9];
 } plot;
 
-enum { PLOTS = 9, V = SN_VIRTUAL_PIT };
+enum { PLOTS = 11, V = SN_VIRTUAL_PIT };
 
-static const plot flat = {"flat", 1, 2, 2, {0, 0, 0, 0}, {0, 0, 0, 1}, 1, 1, 0,
-                          {"3222", "324", "423", "4344"}, {1, 1, 1, 1},
-                          {V, V, V, V}, {3, 3, 3, 3}};
+static const plot flat = {"flat", 1, 2, 2, {0, 0, 0, 0}, {0, 0, 1, 0}, 1, 1, 0,
+                          {"3222", "324", "443", "4324"}, {1, 1, 1, 1},
+                          {V, V, V, V}, {2, 2, 2, 2}};
 static const plot crossed = {"crossed", 1, 2, 2, {5, 0, 0, 5}, {1, 0, 3, 1}, 2, 1, 1,
                              {"333", "3121", "1413", "333"}, {1, 1, 2, 1},
                              {V, V, V, V}, {0, 3, 3, 3}};
@@ -143,11 +143,20 @@ static const plot runs = {"runs", 1, 3, 3, {0, 3, 9, 2, 5, 7, 6, 8, 1},
                            "1311"}, {1, 1, 1, 1, 2, 1, 1, 1, 1},
                           {V, V, V, V, V, V, V, V, V}, {7, 2, 2, 7, 7, 2, 7, 7, 7}};
 
-/* By rule 2 the diagonal of flat is the same, and that of crossed joins posts 0 and 3. In star
-   they are 1-3, 1-5, 3-7 and 5-7, a square round post 4; in hollow 1-3, 1-5, 3-7 and 4-8. */
-static const plot flat_2 = {"flat, rule 2", 2, 2, 2, {0, 0, 0, 0}, {0, 0, 0, 1}, 1, 1, 0,
-                            {"3222", "324", "423", "4344"}, {1, 1, 1, 1},
-                            {V, V, V, V}, {3, 3, 3, 3}};
+/* Driven 0 1 2 5 4 3 6 7 8. With ties by post number it has these marks, dales and hills too:
+   rings and steps tell. The diagonals are 0-4, 1-5, 4-6 and 5-7. */
+static const plot level = {"level", 1, 3, 3, {0, 0, 0, 0, 0, 0, 0, 0, 0},
+                           {0, 0, 0, 0, 0, 0, 0, 0, 1}, 1, 1, 0,
+                           {"3222", "32224", "324", "4423", "442224", "432224", "4423", "44234",
+                            "434"}, {1, 1, 1, 1, 1, 1, 1, 1, 1},
+                           {V, V, V, V, V, V, V, V, V}, {8, 8, 8, 8, 8, 8, 8, 8, 8}};
+
+/* By rule 2 the diagonal of flat joins posts 1 and 2, and that of crossed posts 0 and 3. In star
+   they are 1-3, 1-5, 3-7 and 5-7, a square round post 4; in hollow 1-3, 1-5, 3-7 and 4-8; in
+   level 1-3, 2-4, 3-7 and 4-8. */
+static const plot flat_2 = {"flat, rule 2", 2, 2, 2, {0, 0, 0, 0}, {0, 0, 1, 0}, 1, 1, 0,
+                            {"322", "3224", "4443", "432"}, {1, 1, 1, 1},
+                            {V, V, V, V}, {2, 2, 2, 2}};
 static const plot crossed_2 = {"crossed, rule 2", 2, 2, 2, {5, 0, 0, 5}, {0, 0, 0, 1}, 1, 1, 0,
                                {"3323", "311", "113", "3334"}, {1, 1, 1, 1},
                                {V, V, V, V}, {3, 3, 3, 3}};
@@ -161,6 +170,12 @@ static const plot hollow_2 = {"hollow, rule 2", 2, 3, 3, {1, 1, 1, 1, 0, 1, 1, 1
                               {"322", "322324", "324", "443223", "11111", "43234", "423", "32344",
                                "4343"}, {1, 2, 1, 1, 0, 1, 1, 1, 1},
                               {V, V, V, V, 4, V, V, V, V}, {8, 8, 8, 8, 8, 8, 8, 8, 8}};
+
+static const plot level_2 = {"level, rule 2", 2, 3, 3, {0, 0, 0, 0, 0, 0, 0, 0, 0},
+                             {0, 0, 0, 0, 0, 0, 0, 0, 1}, 1, 1, 0,
+                             {"322", "32224", "3224", "444223", "444222", "4322", "423", "42344",
+                              "4344"}, {1, 1, 1, 1, 1, 1, 1, 1, 1},
+                             {V, V, V, V, V, V, V, V, V}, {8, 8, 8, 8, 8, 8, 8, 8, 8}};
 
 static size_t posts_of(const plot *p)
 {
@@ -516,7 +531,7 @@ static void walks(void)
     next(&hollow, 5, V, 8, "from the border");
     next(&hollow, 8, V, 8, "a peak stays");
     next(&hollow, 0, V, 3, "from a corner to its last neighbour");
-    next(&hollow_2, 1, V, 5, "along a diagonal by rule 2");
+    next(&hollow_2, 1, V, 3, "along a diagonal by rule 2, back as the odd row is driven");
     next(&hollow_2, 3, V, 7, "along another");
     next(&star, 4, 0, 7, "down to a corner");
     next(&star_2, 4, 4, 7, "no corner by rule 2");
@@ -524,6 +539,12 @@ static void walks(void)
     next(&runs, 4, 0, 7, "past a diagonal");
     next(&crossed, 0, V, 0, "a peak");
     next(&crossed_2, 0, V, 3, "no peak by rule 2");
+    next(&flat, 3, V, 2, "up as the odd row is driven");
+    next(&flat_2, 1, V, 2, "up the diagonal of rule 2");
+    next(&level, 4, 0, 7, "the middle, from an even row to an even row");
+    next(&level_2, 4, 1, 8, "the middle by rule 2");
+    next(&level, 5, V, 8, "from an odd row to the last of the next");
+    next(&level, 3, V, 6, "and from its end to the first of the next");
 }
 
 /* What a sheet says, into lists of three lengths: 13 and 14 go before 3. */
@@ -588,8 +609,8 @@ static void refused_sheet(const sheet *s)
 
 int main(void)
 {
-    const plot *const plots[PLOTS] = {&flat, &crossed, &star, &hollow, &runs,
-                                      &flat_2, &crossed_2, &star_2, &hollow_2};
+    const plot *const plots[PLOTS] = {&flat, &crossed, &star, &hollow, &runs, &level,
+                                      &flat_2, &crossed_2, &star_2, &hollow_2, &level_2};
     int i, j;
 
     for (j = 0; j < SHEETS; j++) {
