@@ -14,4 +14,4 @@ unfolding memberCode
 returns c = c .code-by .ensures ∙ rw (c .before .before .is-below .ensures, c .before .is-tied .ensures)
 
 pub code-of-spec : {M : Type 1} → statement M
-code-of-spec = tie.close (tie.spec is-below-requires (search needs) (search needs) returns)
+code-of-spec = tie.close (tie.spec is-below-requires (λ c κs. c .before .pre) (search needs) returns)
