@@ -10,5 +10,6 @@ pub mod Series
 pub mod Demand
 pub mod Sheets
 pub mod Starred
+pub mod LevelGround
 pub mod StarListing
 pub mod ExampleSheets
