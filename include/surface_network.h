@@ -5,9 +5,11 @@
  * number = row * columns + column, both counted from 0 at the top left. A
  * height is a whole number of millimetres, SN_MIN_HEIGHT to SN_MAX_HEIGHT.
  *
- * Height order: a post is below another when its height is less, or the
- * heights are equal and its number is less. The virtual pit lies below every
- * post, outside the border; it is written SN_VIRTUAL_PIT in lists.
+ * Height order: a post is below another when its height is less. Equal heights
+ * are ordered as driven, to and fro: the post in the lower row is below; in one
+ * row, if that is even (0, 2, ..) the one in the lower column, if it is odd the
+ * one in the higher column. The virtual pit lies below every post, outside the
+ * border; it is written SN_VIRTUAL_PIT in lists.
  *
  * Edges: the sides of each cell of four posts, one diagonal of the cell, and an
  * edge from each border post to the virtual pit. The diagonal goes through the
@@ -56,8 +58,8 @@ extern "C" {
 
 /* Version of the library. The build takes it from these three lines. */
 #define SN_VERSION_MAJOR 2
-#define SN_VERSION_MINOR 0
-#define SN_VERSION_PATCH 1
+#define SN_VERSION_MINOR 1
+#define SN_VERSION_PATCH 0
 #define SN_VERSION \
     SN_TEXT(SN_VERSION_MAJOR) "." SN_TEXT(SN_VERSION_MINOR) "." SN_TEXT(SN_VERSION_PATCH)
 

@@ -14,6 +14,12 @@ ghost use Rattle.post.specs.Corners.{bordersOf};
 ghost use Rattle.next.specs.Scan.{inside};
 ghost use Rattle.next.specs.Keys.{keyOf, isKey, numberIn, There, blockOf, around, farther, fartherOf, farthest, cornersKept, farthestOf};
 
+// A place is below this, so that heights count first.
+const PLACES: i32 = 2048;
+
+// The lowest key, that of the lowest height and place 0, without its sign.
+const LOWEST: i64 = 2048000000;
+
 // The keys of a post and of the eight round it. Where there is no neighbour it is the post's own, which is never chosen before another.
 pub struct Block {
     pub post: i32,
@@ -33,7 +39,7 @@ fn key_at(heights: &[i32], grid: Grid, p: usize, odd: bool, down: usize, along: 
     ensures { λ r. ⌜ r ≡ keyOf (plotOf grid (now (heights .entry))) p (p + (down * grid .columns + along) - (grid .columns + 1)) ⌝ }
 {
     let q = p + (down * grid.columns + along) - (grid.columns + 1);
-    heights[q] * 2048 + tie_place(grid, odd, down, along) as i32
+    heights[q] * PLACES + tie_place(grid, odd, down, along) as i32
 }
 
 // The same where it is there, or else p's own key.
@@ -187,10 +193,10 @@ pub(crate) fn highest_at(heights: &[i32], grid: Grid, p: usize, at: Borders, odd
     farthest_in(UP, keep_corners(UP, b))
 }
 
-// The post that has key k among those round p. A key and as much as makes the lowest one 0 is not negative; its last eight binary digits are the same.
+// The post that has key k among those round p. A key counted from the lowest is not negative, and has the same last eight binary digits.
 pub(crate) fn post_of(grid: Grid, p: usize, k: i32) -> usize
     requires { ⌜ (grid .columns ≤ maxSide) × (p < maxPosts) × (isKey k ≡ true) × (grid .columns + 1 ≤ p + numberIn k) ⌝ }
     ensures { λ r. ⌜ r ≡ p + numberIn k - (grid .columns + 1) ⌝ }
 {
-    post_at(grid, p, (k as i64 + 2048000000) as u32 % 256)
+    post_at(grid, p, (k as i64 + LOWEST) as u32 % 256)
 }

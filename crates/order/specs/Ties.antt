@@ -29,6 +29,6 @@ tiePlace columns p q =
     let down = row columns q + 1 - row columns p in
     256 * (2 * down + cond (isOdd (row columns q)) (column columns p + 1 - column columns q) 0) + (q + columns + 1 - p)
 
--- the same by where it stands, and by whether p's row is odd; the rows above and below are not then
+-- the same by where it stands, and by whether p's row is odd: the rows above and below it are where it is not
 abbrev pub placeAt : ℕ → Bool → ℕ → ℕ → ℕ
 placeAt columns odd down along = 256 * (2 * down + cond (flipped (not (eqb down 1)) odd) (2 - along) 0) + (down * columns + along)

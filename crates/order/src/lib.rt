@@ -225,7 +225,7 @@ pub fn east_row(heights: &[i32], grid: Grid, base: usize, odd: bool, flags: &mut
     later_row(heights, grid, base, base + 1, odd, flags, 1, n);
 }
 
-// The turns that the place of a post has for its column: in a row that is `turned`, driven from its last column, one for each of the three that follows.
+// The turns that a place has for its column: in a row that is `turned`, driven from its last column, one for each of the three columns that follow.
 fn turns_back(turned: bool, along: usize) -> usize
     requires { ⌜ along ≤ 2 ⌝ }
     ensures { λ r. ⌜ (r ≡ cond turned (2 - along) 0) × (r ≤ 2) ⌝ }

@@ -89,11 +89,12 @@ reversed lower p q = lower q p
 abbrev pub directed : Bool → (ℕ → ℕ → Bool) → ℕ → ℕ → Bool
 directed upward lower = cond upward (reversed lower) lower
 
--- equal heights are ordered as driven, to and fro by row: p is driven past before q when its row is lower, or within a row when its column is lower, in an
--- odd row when its column is higher
+-- rows 1, 3, 5 and so on
 abbrev pub isOdd : ℕ → Bool
 isOdd n = eqb (n % 2) 1
 
+-- equal heights are ordered as driven, to and fro by row: p is driven past before q when its row is lower, or in one row when its column is lower, if the
+-- row is odd when its column is higher
 unfoldable pub drivenBefore : ℕ → ℕ → ℕ → Bool
 drivenBefore columns p q =
     let r = row columns p in
