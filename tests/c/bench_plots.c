@@ -541,7 +541,7 @@ static void walks(void)
     next(&crossed_2, 0, V, 3, "no peak by rule 2");
     next(&flat, 3, V, 2, "up as the odd row is driven");
     next(&flat_2, 1, V, 2, "up the diagonal of rule 2");
-    next(&level, 4, 0, 7, "the middle, from an even row to an even row");
+    next(&level, 4, 0, 7, "the middle, down to the first driven");
     next(&level_2, 4, 1, 8, "the middle by rule 2");
     next(&level, 5, V, 8, "from an odd row to the last of the next");
     next(&level, 3, V, 6, "and from its end to the first of the next");

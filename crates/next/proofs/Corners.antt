@@ -3,7 +3,7 @@
 -- corner above p is joined to it exactly where p is the cell's lowest post, so where both sides of the cell are above p too. Over any strict total order;
 -- in the reversed one the diagonals go through the highest posts, and down and up change places.
 use Prim.Native.Nat.{ℕ, _+_, _-_, _≤_}
-use mathlib.Core.Path.{_≡_, refl, sym, ap, subst, _∙_}
+use mathlib.Core.Path.{_≡_, refl, sym, ap, _∙_}
 use mathlib.Core.Logic.{_⊎_, ⊎-elim, inl, inr}
 use mathlib.Core.Bool.{Bool, true, false, cond, not, _&&_, true≢false, or-true, and-false}
 use mathlib.Core.List.{List, [], _∷_, _++_, List·Memᴰ, List·Memᴰ·head, List·Memᴰ·tail, List·Memᴰ·cases-cons, List·Memᴰ·not-nil}
@@ -14,15 +14,15 @@ use Rattle.surface.specs.Edges.{lowerOf, throughLowest, lowest, Place, place, t
 use Rattle.surface.specs.Lines.{next, toward}
 use Rattle.surface.specs.Flags.{flipped}
 use Rattle.surface.proofs.General.Bools.{either, or-left, or-right}
-use Rattle.surface.proofs.AnyOrder.Grid.{top-false, bottom-false, not-left}
+use Rattle.surface.proofs.AnyOrder.Grid.{top-false, not-left}
 use Rattle.surface.proofs.AnyOrder.Locality.{read-agree}
 use Rattle.surface.proofs.AnyOrder.Order.{StrictTotal, reversed-strict}
 use Rattle.surface.proofs.AnyOrder.Lowest.{lowest-member, lowest-least}
 use Rattle.surface.proofs.OfPlots.HeightOrder.{below-strict}
-use Rattle.post.specs.Corners.{bordersOf, Neighbours}
+use Rattle.post.specs.Corners.{bordersOf}
 use Rattle.post.specs.declared.border.Borders.{Borders}
 use Rattle.post.specs.declared.corner.Corners.{Corners}
-use Rattle.post.proofs.Around.{both, south-east, north-west, neighbours}
+use Rattle.post.proofs.Around.{north-west}
 use Rattle.next.specs.Scan.{inside, cells, step, scan, turn, cornersLower}
 use Rattle.next.proofs.Scanned.{to-front, up-is, down-is}
 

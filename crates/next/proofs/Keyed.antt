@@ -12,8 +12,8 @@ use mir.Facts.{toZ-ofZ}
 use borrow.Author.Needs.{sfits-of}
 use lib.Signed.{ltZ, mag}
 use borrow.Author.Tests.{ltb-true, ltb-false, lt-ltb, le-ltb, not-true}
-use Rattle.surface.specs.Plot.{Plot, below, isHeight, height, virtualPit, drivenBefore, Sides, PostOf}
-use Rattle.surface.specs.Edges.{Place, place, isBorder, top, bottom, left, right}
+use Rattle.surface.specs.Plot.{Plot, below, isHeight, height, virtualPit, Sides, PostOf}
+use Rattle.surface.specs.Edges.{Place, isBorder, top, bottom, left, right}
 use Rattle.surface.specs.Lines.{next, toward}
 use Rattle.surface.specs.Flags.{flipped}
 use Rattle.surface.proofs.General.Bools.{either, and-left}
@@ -35,7 +35,7 @@ use Rattle.next.proofs.Nine.{there-near, own-there, n-there, ne-there, 
 -- ---- keys as numbers
 
 -- a key of a negative height
-pub key-negative : (n i : ℕ) → i < 2048 → keyBy (negsuc n) i ≡ negsuc (n * 2048 + (2047 - i))
+key-negative : (n i : ℕ) → i < 2048 → keyBy (negsuc n) i ≡ negsuc (n * 2048 + (2047 - i))
 key-negative n i h =
     let e : suc n * 2048 ≡ suc (n * 2048 + 2047) = omega arith in
     let f : suc (n * 2048 + 2047) - suc i ≡ n * 2048 + (2047 - i) = omega arith in

@@ -5,7 +5,7 @@ use mathlib.Core.Path.{_≡_, _∙_}
 use mathlib.Core.Bool.{false}
 use Rattle.surface.specs.Plot.{Plot, posts, Sides, PostOf}
 use Rattle.surface.specs.Edges.{top, bottom, left, right}
-use Rattle.surface.proofs.AnyOrder.Grid.{top-false, bottom-false, row-south, column-south, row-north, column-north, row-east, column-east, row-west, column-west, not-left, east-post, south-left, south-right, north-left, north-right}
+use Rattle.surface.proofs.AnyOrder.Grid.{top-false, bottom-false, row-south, column-south, row-north, column-north, row-east, column-east, row-west, column-west, east-post, south-left, south-right, north-left, north-right}
 use Rattle.order.specs.Ties.{Near, Stands}
 use Rattle.order.proofs.Places.{stands-near}
 use Rattle.post.proofs.Around.{south-east}
@@ -14,10 +14,10 @@ use Rattle.next.specs.Keys.{There}
 -- one step aside
 module _ {rows columns : ℕ} (s : Sides rows columns) {p q down : ℕ} (t : Stands columns p q down 1) where
   pub to-east : (r : ℕ) → r ≡ q + 1 → right columns q ≡ false → Stands columns p r down 2
-  to-east r e h = rw e (record { below = rw (row-east s q h) (t .below); beside = omega (arith, column-east s q h, t .beside) })
+  to-east r e h = rw e (record { inRow = rw (row-east s q h) (t .inRow); inColumn = omega (arith, column-east s q h, t .inColumn) })
 
   pub to-west : (r : ℕ) → r ≡ q - 1 → left columns q ≡ false → Stands columns p r down 0
-  to-west r e h = rw e (record { below = rw (row-west s q h) (t .below); beside = omega (arith, column-west s q h, t .beside) })
+  to-west r e h = rw e (record { inRow = rw (row-west s q h) (t .inRow); inColumn = omega (arith, column-west s q h, t .inColumn) })
 
 pub there-near : {pl : Plot} {p down along : ℕ} (t : There pl p down along) → Near pl.columns p (t .q)
 there-near t = stands-near (t .stands) (t .inRows) (t .inColumns)
@@ -30,13 +30,13 @@ module _ {pl : Plot} {p : ℕ} (post : PostOf pl p) where
   c = pl.columns
 
   pub own : Stands c p p 1 1
-  own = record { below = omega arith; beside = omega arith }
+  own = record { inRow = omega arith; inColumn = omega arith }
 
   pub north : top c p ≡ false → Stands c p (p - c) 0 1
-  north t = record { below = omega (arith, row-north s p t); beside = omega (arith, column-north s p t) }
+  north t = record { inRow = omega (arith, row-north s p t); inColumn = omega (arith, column-north s p t) }
 
   pub south : Stands c p (p + c) 2 1
-  south = record { below = omega (arith, row-south s p); beside = omega (arith, column-south s p) }
+  south = record { inRow = omega (arith, row-south s p); inColumn = omega (arith, column-south s p) }
 
   -- a post that stands so
   abbrev there : (q : ℕ) {down along : ℕ} → q < posts pl → Stands c p q down along → down ≤ 2 → along ≤ 2 → There pl p down along

@@ -39,7 +39,7 @@ pub fn next_at(heights: &[i32], grid: Grid, p: usize, up: bool) -> usize
     requires { ⌜ PostOf (plotOf grid (now heights)) p ⌝ }
     ensures { λ r. ⌜ r ≡ next (toward up (plotOf grid (now (heights .entry)))) p ⌝ }
 {
-    // a call for each parity: so a walk need not wait for it
+    // a call for each parity: so a walk need not wait for the division
     if !is_border(grid, p) {
         if is_odd_row(grid, p) {
             return next_inside(heights, grid, p, true, up);

@@ -1,9 +1,9 @@
 -- Places among the nine posts round a post p: they tell the order as driven, and their numbers tell the posts.
-use Prim.Native.Nat.{ℕ, zero, suc, _+_, _-_, _*_, _%_, _≤_, _<_}
+use Prim.Native.Nat.{ℕ, zero, suc, _+_, _-_, _*_, _≤_, _<_}
 use native.Mathlib.Omega.{arith}
 use native.Mathlib.Nat.{add-mul, one-mul, mul-le-mul-right, le-refl}
 use native.Mathlib.Decide.{ℕ-discrete}
-use mathlib.Core.Path.{_≡_, refl, sym, ap, _∙_}
+use mathlib.Core.Path.{_≡_, sym, ap, _∙_}
 use mathlib.Core.Bool.{Bool, true, false, cond, not, true≢false}
 use lib.Dec.{ltb, eqb}
 use borrow.Author.Tests.{ltb-true, ltb-false, lt-ltb, le-ltb}
@@ -29,19 +29,19 @@ last : (t m n : ℕ) → m < n → t + m < t + n
 last t m n h = omega arith
 
 pub stands-near : {columns p q down along : ℕ} → Stands columns p q down along → down ≤ 2 → along ≤ 2 → Near columns p q
-stands-near t d a = record { north = omega (arith, t .below); south = omega (arith, t .below); west = omega (arith, t .beside); east = omega (arith, t .beside) }
+stands-near t d a = record { north = omega (arith, t .inRow); south = omega (arith, t .inRow); west = omega (arith, t .inColumn); east = omega (arith, t .inColumn) }
 
 -- numbers, by rows and columns
 pub numbered : (columns : ℕ) (p q down along : ℕ) → Stands columns p q down along → down ≤ 2 → q + columns + 1 ≡ p + (down * columns + along)
 numbered columns p q zero along t d =
-    let e : row columns p ≡ row columns q + 1 = omega (arith, t .below) in
-    omega (arith, post-is columns q, rw e at (post-is columns p), more columns (row columns q), t .beside)
+    let e : row columns p ≡ row columns q + 1 = omega (arith, t .inRow) in
+    omega (arith, post-is columns q, rw e at (post-is columns p), more columns (row columns q), t .inColumn)
 numbered columns p q (suc zero) along t d =
-    let e : row columns p ≡ row columns q = omega (arith, t .below) in
-    omega (arith, post-is columns q, rw e at (post-is columns p), t .beside)
+    let e : row columns p ≡ row columns q = omega (arith, t .inRow) in
+    omega (arith, post-is columns q, rw e at (post-is columns p), t .inColumn)
 numbered columns p q (suc (suc zero)) along t d =
-    let e : row columns q ≡ row columns p + 1 = omega (arith, t .below) in
-    omega (arith, post-is columns p, rw e at (post-is columns q), more columns (row columns p), t .beside)
+    let e : row columns q ≡ row columns p + 1 = omega (arith, t .inRow) in
+    omega (arith, post-is columns p, rw e at (post-is columns q), more columns (row columns p), t .inColumn)
 numbered columns p q (suc (suc (suc n))) along t d = absurd (omega arith)
 
 -- the parity of its row
@@ -55,14 +55,14 @@ pub place-stands : {columns p q down along : ℕ} → Stands columns p q down al
     → tiePlace columns p q ≡ placeAt columns (isOdd (row columns p)) down along
 place-stands {columns} {p} {q} {down} {along} t d a =
     let n : q + columns + 1 - p ≡ down * columns + along = omega (arith, numbered columns p q down along t d) in
-    let r : row columns q + 1 - row columns p ≡ down = omega (arith, t .below) in
-    let k : column columns p + 1 - column columns q ≡ 2 - along = omega (arith, t .beside) in
-    rw (n, r, k, parity (row columns p) (row columns q) down (t .below) d)
+    let r : row columns q + 1 - row columns p ≡ down = omega (arith, t .inRow) in
+    let k : column columns p + 1 - column columns q ≡ 2 - along = omega (arith, t .inColumn) in
+    rw (n, r, k, parity (row columns p) (row columns q) down (t .inRow) d)
 
 module _ {rows columns : ℕ} (s : Sides rows columns) (p : ℕ) where
   -- where one of the nine stands
   stands : (q : ℕ) → Near columns p q → Stands columns p q (row columns q + 1 - row columns p) (column columns q + 1 - column columns p)
-  stands q n = record { below = omega (arith, n .north); beside = omega (arith, n .west) }
+  stands q n = record { inRow = omega (arith, n .north); inColumn = omega (arith, n .west) }
 
   -- its number is below 256, and tells it
   pub record Numbered (q : ℕ) : Type 0 where

@@ -19,8 +19,8 @@ pub record Near (columns p q : ℕ) : Type 0 where
 
 -- q stands so many rows and columns after the first of them
 pub record Stands (columns p q down along : ℕ) : Type 0 where
-  pub below : row columns q + 1 ≡ row columns p + down
-  pub beside : column columns q + 1 ≡ column columns p + along
+  pub inRow : row columns q + 1 ≡ row columns p + down
+  pub inColumn : column columns q + 1 ≡ column columns p + along
 
 -- q's place among them: its number, and 256 for each turn. A row takes two turns; in an odd row, driven from its last column, each post has a turn more
 -- than the one to its east. So where numbers fall from one post driven past to the next, turns rise

@@ -100,7 +100,7 @@ module _ {l : List ℕ} (ends : Ends l) where
         let e : suc (a .0) + (m + b .0) ≡ suc m + (a .0 + b .0) = omega arith in
         (a .0 + b .0, b .1 ∙ ap (along l (m + b .0)) (a .1) ∙ along-add l (suc (a .0)) (m + b .0) p ∙ ap (λ (n : ℕ). along l n p) e)
 
-    pub shorter-end : (p : ℕ) → pathEnd l′ p ≡ pathEnd l p
+    shorter-end : (p : ℕ) → pathEnd l′ p ≡ pathEnd l p
     shorter-end p = let b = at-least (length l) p in rw (s .size) (b .1 ∙ past-end (b .0) p)
 
     -- an end's entry is the end, and an entry that is its path's end stays
@@ -108,7 +108,7 @@ module _ {l : List ℕ} (ends : Ends l) where
     unfolding along
     shorter-told p h = let a = s .further p in a .1 ∙ ap (along l (a .0)) h ∙ along-stays l (a .0) (pathEnd l p) (ends .stays p)
 
-    pub shorter-ends : Ends l′
+    shorter-ends : Ends l′
     shorter-ends =
         record {
           stays = λ p. let a = s .further (pathEnd l p) in rw (shorter-end p) (a .1 ∙ along-stays l (suc (a .0)) (pathEnd l p) (ends .stays p));

@@ -145,7 +145,7 @@ pub record LevelGround : Type 0 where
   pub flatRingHighest : ringList (ruled true 2 2 (flat .heights)) 2 (marks 8) ≡ 4 ∷ 4 ∷ 4 ∷ 3 ∷ replicate 4 0
   -- flat 2 by 3: post 3 a peak, the rest ordinary, by either rule
   pub wideMarks : (highest : Bool) → surveyMarks (wide highest) (marks 6) ≡ 0 ∷ 0 ∷ 0 ∷ 1 ∷ 0 ∷ 0 ∷ []
-  -- flat 3 by 3 has its peak at post 8, as by numbers; next up tells, to the end of the drive of the next row
+  -- flat 3 by 3 has its peak at post 8, as it would by numbers; next up tells the two apart: by numbers it would be 7 and 5
   pub squarePeak : (highest : Bool) → getD (surveyMarks (square highest) (marks 9)) 8 9 ≡ 1
   pub squareUp : nextUpAnswer (square false) 3 ≡ goes 6
   pub squareUpHighest : nextUpAnswer (square true) 1 ≡ goes 3

@@ -93,8 +93,8 @@ directed upward lower = cond upward (reversed lower) lower
 abbrev pub isOdd : ℕ → Bool
 isOdd n = eqb (n % 2) 1
 
--- equal heights are ordered as driven, to and fro by row: p is driven past before q when its row is lower, or in one row when its column is lower, if the
--- row is odd when its column is higher
+-- equal heights are ordered as driven, to and fro by row: p is driven past before q when its row is lower; within a row when its column is lower or, if
+-- the row is odd, when it is higher
 unfoldable pub drivenBefore : ℕ → ℕ → ℕ → Bool
 drivenBefore columns p q =
     let r = row columns p in

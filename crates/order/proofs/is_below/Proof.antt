@@ -1,10 +1,10 @@
 -- The virtual pit is below every post, and no vertex is below it.
 use Prim.Native.Nat.{ℕ}
 use mathlib.Core.Path.{_≡_, sym, _∙_, ap}
-use mathlib.Core.Bool.{Bool, not}
+use mathlib.Core.Bool.{not}
 use lib.Dec.{eqb}
 use borrow.Author.Tests.{eqb-true, eqb-false}
-use Rattle.surface.specs.Plot.{Plot, plotOf, below, virtualPit, PostOf}
+use Rattle.surface.specs.Plot.{Plot, plotOf, below, virtualPit}
 use Rattle.surface.proofs.General.Bools.{either}
 use Rattle.surface.proofs.OfPlots.HeightOrder.{pit-below, not-below-pit}
 use Rattle.order.proofs.Level.{vertex-post}

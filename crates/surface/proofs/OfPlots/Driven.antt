@@ -41,7 +41,7 @@ module _ (columns : ℕ) where
   driven-strict = lex-strict ltb (row columns) turned ltb-linear turned-ties
 
   -- between rows the lower row comes first
-  pub rows-driven : (p q : ℕ) → row columns p < row columns q → drivenBefore columns p q ≡ true
+  rows-driven : (p q : ℕ) → row columns p < row columns q → drivenBefore columns p q ≡ true
   unfolding drivenBefore
   rows-driven p q h = rw (lt-ltb (row columns p) (row columns q) h)
 
@@ -89,7 +89,7 @@ pub record Told (columns p q : ℕ) (before : Bool) : Type 0 where
   pub first : drivenBefore columns p q ≡ before
   pub second : drivenBefore columns q p ≡ not before
 
-pub ne-told : {columns p q : ℕ} {before : Bool} → (p ≡ q → ⊥) → drivenBefore columns p q ≡ before → Told columns p q before
+ne-told : {columns p q : ℕ} {before : Bool} → (p ≡ q → ⊥) → drivenBefore columns p q ≡ before → Told columns p q before
 ne-told {columns} {p} {q} h e = record { first = e; second = driven-strict columns .other p q h ∙ rw e }
 
 module _ {rows columns : ℕ} (s : Sides rows columns) where

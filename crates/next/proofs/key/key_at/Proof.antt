@@ -8,14 +8,13 @@ use borrow.Author.Tests.{lt-ltb}
 use lib.IntN.{ℤ, pos}
 use lib.ListN.{getD}
 use mir.Syntax.{w32}
-use mir.Val.{SFits, toZ, ofZ}
+use mir.Val.{toZ, ofZ}
 use mir.Facts.{toZ-ofZ}
 use Rattle.surface.specs.Plot.{isHeight}
 use Rattle.surface.proofs.General.FirstNot.{all-at}
 use Rattle.order.specs.Ties.{tiePlace, placeAt}
 use Rattle.order.proofs.Places.{numbered, place-stands}
 use Rattle.order.proofs.Level.{height-fits}
-use borrow.Author.Needs.{needs}
 use Rattle.next.proofs.Keyed.{key-fits, part-fits}
 use Rattle.next.proofs.key.key_at.Statement.{statement}
 use Rattle.next.proofs.key.key_at.Tie as tie

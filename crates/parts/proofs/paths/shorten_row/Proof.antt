@@ -1,10 +1,10 @@
 -- The loop's invariant: the posts met are settled.
 use Prim.Native.Nat.{ℕ, _+_, _-_, _≤_}
 use native.Mathlib.Omega.{arith}
-use mathlib.Core.Path.{_≡_, sym, _∙_}
+use mathlib.Core.Path.{_≡_}
 use mathlib.Core.Bool.{Bool}
 use borrow.Author.Needs.{needs}
-use Rattle.parts.specs.Paths.{Row, Settled}
+use Rattle.parts.specs.Paths.{Settled}
 use Rattle.parts.proofs.Shorter.{settled-none, settled-one, settled-then, settled-of}
 use Rattle.parts.proofs.Turns.{met, met-in, met-all, Before, before-more}
 use Rattle.parts.proofs.paths.shorten_row.Statement.{statement}

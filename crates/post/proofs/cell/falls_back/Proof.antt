@@ -1,5 +1,4 @@
 -- What is asked of a cell that is there goes on to its diagonal, by the rule.
-use native.Mathlib.Omega.{arith}
 use Prim.Native.Nat.{_-_}
 use mathlib.Core.Path.{_≡_, sym, _∙_}
 use mathlib.Core.Bool.{Bool, true, false}
