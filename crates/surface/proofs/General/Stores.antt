@@ -83,12 +83,3 @@ pub stores-same : {A : Type 0} (f g : ℕ → A) (from n : ℕ) (l : List A) →
 unfolding stores
 stores-same f g from zero l h = refl
 stores-same f g from (suc n) l h = rw (stores-same f g from n l (λ i k. h i (omega arith)), h n (omega arith))
-
--- what a list tells of every place passed, it tells of one more after a store
-pub told-more : {A : Type 0} (l : List A) (i : ℕ) (x d : A) (f : ℕ → A) → i < length l → ((k : ℕ) → k < i → getD l k d ≡ f k) → x ≡ f i
-    → (k : ℕ) → k < i + 1 → getD (set l i x) k d ≡ f k
-told-more l i x d f h t e k m = go (ℕ-discrete k i)
-  where
-    go : Dec (k ≡ i) → getD (set l i x) k d ≡ f k
-    go (yes q) = rw q (getD-set-same l i x d h ∙ e)
-    go (no q) = getD-set-other l i k x d q ∙ t k (omega arith)

@@ -1,11 +1,17 @@
 -- Four comparisons, and four choices by them.
 use mathlib.Core.Path.{_≡_, _∙_}
+use mathlib.Core.Bool.{Bool, cond, _&&_}
+use lib.IntN.{ℤ}
 use mir.Syntax.{w32}
 use mir.Val.{toZ, ofZ}
 use borrow.Author.Needs.{needs}
 use Rattle.next.proofs.Keyed.{bits-of, same-block}
 use Rattle.next.proofs.key.keep_corners.Statement.{statement}
 use Rattle.next.proofs.key.keep_corners.Tie as tie
+
+-- a corner is chosen by both its sides
+corner : {a b a′ b′ : Bool} {r : ℤ} (x y : ℤ) → a ≡ a′ → b ≡ b′ → r ≡ cond (a && b) x y → r ≡ cond (a′ && b′) x y
+corner x y e f h = rw (← e, ← f) h
 
 returns : tie.Need-returns
 returns c =
@@ -23,10 +29,10 @@ returns c =
     let f2 = rw (be, bpost) at (c .before .before .before .before .before .before .before .before .before .before .before .before .before .before .before .before .before .before .before .is-farther2 .ensures) in
     let f3 = rw (bs, bpost) at (c .before .before .before .before .before .before .before .before .before .before .before .before .before .before .before .before .is-farther3 .ensures) in
     let f4 = rw (bw, bpost) at (c .before .before .before .before .before .before .before .before .before .before .before .before .before .is-farther4 .ensures) in
-    let c1 = bits-of (c .before .before .before .before .before .before .before .before .before .before .choose .result) (c .before .before .before .before .before .before .before .before .before .before .choose .ok) ∙ rw (bne, bpost, f1, f2) at (c .before .before .before .before .before .before .before .before .before .before .choose .ensures) in
-    let c2 = bits-of (c .before .before .before .before .before .before .before .choose2 .result) (c .before .before .before .before .before .before .before .choose2 .ok) ∙ rw (bse, bpost, f2, f3) at (c .before .before .before .before .before .before .before .choose2 .ensures) in
-    let c3 = bits-of (c .before .before .before .before .choose3 .result) (c .before .before .before .before .choose3 .ok) ∙ rw (bsw, bpost, f3, f4) at (c .before .before .before .before .choose3 .ensures) in
-    let c4 = bits-of (c .before .choose4 .result) (c .before .choose4 .ok) ∙ rw (bnw, bpost, f4, f1) at (c .before .choose4 .ensures) in
+    let c1 = bits-of (c .before .before .before .before .before .before .before .before .before .before .choose .result) (c .before .before .before .before .before .before .before .before .before .before .choose .ok) ∙ corner (k .ne) (k .post) f1 f2 (rw (bne, bpost) at (c .before .before .before .before .before .before .before .before .before .before .choose .ensures)) in
+    let c2 = bits-of (c .before .before .before .before .before .before .before .choose2 .result) (c .before .before .before .before .before .before .before .choose2 .ok) ∙ corner (k .se) (k .post) f2 f3 (rw (bse, bpost) at (c .before .before .before .before .before .before .before .choose2 .ensures)) in
+    let c3 = bits-of (c .before .before .before .before .choose3 .result) (c .before .before .before .before .choose3 .ok) ∙ corner (k .sw) (k .post) f3 f4 (rw (bsw, bpost) at (c .before .before .before .before .choose3 .ensures)) in
+    let c4 = bits-of (c .before .choose4 .result) (c .before .choose4 .ok) ∙ corner (k .nw) (k .post) f4 f1 (rw (bnw, bpost) at (c .before .choose4 .ensures)) in
     same-block _ _ _ _ _ _ _ _ _ _ _ _ _ _ _ _ _ _ bpost bn c1 be c2 bs c3 bw c4
 
 pub keep-corners-spec : {M : Type 1} → statement M
