@@ -9,9 +9,7 @@ ghost use lib.IntN.{pos};
 ghost use lib.Signed.{ltZ};
 ghost use lib.ListN.{length, getD};
 ghost use Rattle.surface.specs.Lists.{listOf, stores};
-ghost use Rattle.surface.specs.Plot.{plotOf, posts, maxSide, maxPosts, row, column, Vertex, isOdd, drivenBefore, below, tied, Sides, Valid, PostOf};
-ghost use Rattle.surface.specs.Edges.{lowerOf};
-ghost use Rattle.surface.specs.Lines.{toward};
+ghost use Rattle.surface.specs.Plot.{plotOf, posts, maxSide, maxPosts, row, column, Vertex, isOdd, directed, drivenBefore, below, tied, Sides, Valid, PostOf};
 ghost use Rattle.order.specs.Ties.{Drives, placeAt};
 
 // How many posts are compared at once.
@@ -104,23 +102,12 @@ pub fn is_tied(heights: &[i32], grid: Grid, p: usize, q: usize) -> bool
 // p is below q, or above it where `up`.
 pub fn is_lower(heights: &[i32], grid: Grid, up: bool, p: usize, q: usize) -> bool
     requires { ⌜ Valid (plotOf grid (now heights)) × Vertex (posts (plotOf grid (now heights))) p × Vertex (posts (plotOf grid (now heights))) q ⌝ }
-    ensures { λ r. ⌜ r ≡ toward up (plotOf grid (now (heights .entry))) .lower p q ⌝ }
+    ensures { λ r. ⌜ r ≡ directed up (below (plotOf grid (now (heights .entry)))) p q ⌝ }
 {
     if up {
         return is_below(heights, grid, q, p);
     }
     is_below(heights, grid, p, q)
-}
-
-// The lower of p and q, the higher where `up`; p where neither is.
-pub fn lower_of(heights: &[i32], grid: Grid, up: bool, p: usize, q: usize) -> usize
-    requires { ⌜ Valid (plotOf grid (now heights)) × Vertex (posts (plotOf grid (now heights))) p × Vertex (posts (plotOf grid (now heights))) q ⌝ }
-    ensures { λ r. ⌜ r ≡ lowerOf (toward up (plotOf grid (now (heights .entry))) .lower) p q ⌝ }
-{
-    if is_lower(heights, grid, up, q, p) {
-        return q;
-    }
-    p
 }
 
 // A block of flags: whether the posts from q on are below those from p on, `tie` telling whether they are where heights are equal. It is an array of

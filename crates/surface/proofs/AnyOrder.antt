@@ -7,6 +7,7 @@ pub mod Offsets
 pub mod RingOnce
 pub mod Order
 pub mod Lex
+pub mod Slopes
 pub mod Lowest
 pub mod CellFlags
 pub mod Runs

@@ -6,10 +6,14 @@ pub mod MarkCalls
 pub mod RingCall
 pub mod FileCalls
 pub mod RoundTrip
+pub mod FirstVersion
 pub mod Series
 pub mod Demand
+pub mod Steepest
 pub mod Sheets
 pub mod Starred
 pub mod LevelGround
+pub mod SlopedGround
+pub mod ExampleFiles
 pub mod StarListing
 pub mod ExampleSheets

@@ -6,12 +6,19 @@ use mathlib.Core.List.{List, [], _∷_, _++_}
 use lib.IntN.{pos, negsuc}
 use lib.ListN.{length, replicate, getD}
 use Rattle.surface.specs.Plot.{Plot, ruled, plot}
-use Rattle.surface.specs.SurveyFile.{bytesOf}
+use Rattle.surface.specs.Lines.{spacings}
+use Rattle.surface.specs.SurveyFile.{bytesOf, fileOf}
 use Rattle.surface.specs.Calls.{plotBy, settingsAnswer, settingsName, surveyAnswer, surveyMarks, ringList, nextDownAnswer, nextUpAnswer, thalwegAnswer, thalwegList, ridgeAnswer, ridgeList, readAnswer, readHeights}
 use Rattle.surface.specs.declared.Sheet.{Sheet}
 use Rattle.surface.specs.declared.Counts.{Counts}
 use Rattle.surface.specs.declared.Next.{Next}
 use Rattle.surface.specs.declared.Entries.{Entries}
+use Rattle.surface.specs.declared.Size.{Size}
+use Rattle.surface.specs.declared.Spacings.{Spacings}
+
+-- posts a metre apart either way
+abbrev pub metre : Spacings
+metre = spacings 100 100
 
 -- 0 0 / 0 0
 abbrev pub flat : Plot
@@ -29,7 +36,7 @@ star = plot 3 3 (pos 0 ∷ pos 2 ∷ pos 0 ∷ pos 2 ∷ pos 1 ∷ pos 2 ∷ pos
 abbrev pub hollow : Plot
 hollow = plot 3 3 (pos 1 ∷ pos 1 ∷ pos 1 ∷ pos 1 ∷ pos 0 ∷ pos 1 ∷ pos 1 ∷ pos 1 ∷ pos 1 ∷ [])
 
--- a 2 by 2 file, by the bytes of its four heights
+-- a 2 by 2 file of version 1, by the bytes of its four heights
 abbrev pub filed : List ℕ → List ℕ
 filed bytes =
     1
@@ -74,6 +81,10 @@ written n = record { code = 0; place = 0; count = n }
 abbrev pub refused : ℕ → Entries
 refused code = record { code = code; place = 0; count = 0 }
 
+abbrev pub read : ℕ → ℕ → Spacings → Size
+read rows columns s =
+    record { code = 0; place = 0; rows = rows; columns = columns; east = s .east; south = s .south }
+
 pub record Starred : Type 0 where
   -- flat 2 by 2: post 2 a peak, the rest ordinary; counts 1, 1, 0
   pub flatMarks : surveyMarks flat (marks 4) ≡ 0 ∷ 0 ∷ 1 ∷ 0 ∷ []
@@ -82,25 +93,25 @@ pub record Starred : Type 0 where
   pub crossedMarks : surveyMarks crossed (marks 4) ≡ 1 ∷ 0 ∷ 3 ∷ 1 ∷ []
   pub crossedCounts : surveyAnswer crossed (marks 4) ≡ counted 2 1 1
   -- crossed, post 2, water line 0: 2, 1, 65535 in three entries; later entries keep their content
-  pub crossedLine : thalwegList crossed 2 0 (entries 4) ≡ 2 ∷ 1 ∷ 65535 ∷ 7 ∷ []
-  pub crossedCount : thalwegAnswer crossed 2 0 (entries 4) ≡ written 3
-  pub crossedExact : thalwegList crossed 2 0 (entries 3) ≡ 2 ∷ 1 ∷ 65535 ∷ []
-  pub crossedExactCount : thalwegAnswer crossed 2 0 (entries 3) ≡ written 3
+  pub crossedLine : thalwegList crossed metre 2 0 (entries 4) ≡ 2 ∷ 1 ∷ 65535 ∷ 7 ∷ []
+  pub crossedCount : thalwegAnswer crossed metre 2 0 (entries 4) ≡ written 3
+  pub crossedExact : thalwegList crossed metre 2 0 (entries 3) ≡ 2 ∷ 1 ∷ 65535 ∷ []
+  pub crossedExactCount : thalwegAnswer crossed metre 2 0 (entries 3) ≡ written 3
   -- a list of two: refusal 9
-  pub crossedShort : thalwegAnswer crossed 2 0 (entries 2) ≡ refused 9
-  pub crossedShortList : thalwegList crossed 2 0 (entries 2) ≡ entries 2
+  pub crossedShort : thalwegAnswer crossed metre 2 0 (entries 2) ≡ refused 9
+  pub crossedShortList : thalwegList crossed metre 2 0 (entries 2) ≡ entries 2
   -- star: post 4 has mark 5
   pub starMark : getD (surveyMarks star (marks 9)) 4 9 ≡ 5
   -- its crest line 0: 4, 1 in two entries
-  pub starLine : ridgeList star 4 0 (entries 3) ≡ 4 ∷ 1 ∷ 7 ∷ []
-  pub starCount : ridgeAnswer star 4 0 (entries 3) ≡ written 2
-  pub starExact : ridgeList star 4 0 (entries 2) ≡ 4 ∷ 1 ∷ []
-  pub starExactCount : ridgeAnswer star 4 0 (entries 2) ≡ written 2
+  pub starLine : ridgeList star metre 4 0 (entries 3) ≡ 4 ∷ 1 ∷ 7 ∷ []
+  pub starCount : ridgeAnswer star metre 4 0 (entries 3) ≡ written 2
+  pub starExact : ridgeList star metre 4 0 (entries 2) ≡ 4 ∷ 1 ∷ []
+  pub starExactCount : ridgeAnswer star metre 4 0 (entries 2) ≡ written 2
   -- run 2 of the crossed saddle: refusal 8
-  pub crossedRun : thalwegAnswer crossed 2 2 (entries 4) ≡ refused 8
-  pub crossedRunUp : ridgeAnswer crossed 2 2 (entries 4) ≡ refused 8
-  pub crossedRunList : thalwegList crossed 2 2 (entries 4) ≡ entries 4
-  pub crossedRunUpList : ridgeList crossed 2 2 (entries 4) ≡ entries 4
+  pub crossedRun : thalwegAnswer crossed metre 2 2 (entries 4) ≡ refused 8
+  pub crossedRunUp : ridgeAnswer crossed metre 2 2 (entries 4) ≡ refused 8
+  pub crossedRunList : thalwegList crossed metre 2 2 (entries 4) ≡ entries 4
+  pub crossedRunUpList : ridgeList crossed metre 2 2 (entries 4) ≡ entries 4
   -- hollow: post 4 a pit, post 0 a saddle, post 8 a peak; counts 1, 2, 1
   pub hollowPit : getD (surveyMarks hollow (marks 9)) 4 9 ≡ 2
   pub hollowSaddle : getD (surveyMarks hollow (marks 9)) 0 9 ≡ 3
@@ -108,7 +119,7 @@ pub record Starred : Type 0 where
   pub hollowCounts : surveyAnswer hollow (marks 9) ≡ counted 1 2 1
   -- tenths 4, 5, 15, -5 read as 0, 0, 2, 0, and 25, -4, -15, -25 as 2, 0, -2, -2
   pub roundings : readHeights tenths (replicate 4 (pos 7)) ≡ pos 0 ∷ pos 0 ∷ pos 2 ∷ pos 0 ∷ []
-  pub roundingsRead : readAnswer tenths (replicate 4 (pos 7)) ≡ record { code = 0; place = 0; rows = 2; columns = 2 }
+  pub roundingsRead : readAnswer tenths (replicate 4 (pos 7)) ≡ read 2 2 metre
   pub moreRoundings : readHeights moreTenths (replicate 4 (pos 7)) ≡ pos 2 ∷ pos 0 ∷ negsuc 1 ∷ negsuc 1 ∷ []
 
 -- level ground, where the drive decides, by either rule. 0 0 0 / 0 0 0, and flat 3 by 3
@@ -147,18 +158,94 @@ pub record LevelGround : Type 0 where
   pub wideMarks : (highest : Bool) → surveyMarks (wide highest) (marks 6) ≡ 0 ∷ 0 ∷ 0 ∷ 1 ∷ 0 ∷ 0 ∷ []
   -- flat 3 by 3 has its peak at post 8, as it would by numbers; next up tells the two apart: by numbers it would be 7 and 5
   pub squarePeak : (highest : Bool) → getD (surveyMarks (square highest) (marks 9)) 8 9 ≡ 1
-  pub squareUp : nextUpAnswer (square false) 3 ≡ goes 6
-  pub squareUpHighest : nextUpAnswer (square true) 1 ≡ goes 3
+  pub squareUp : nextUpAnswer (square false) metre 3 ≡ goes 6
+  pub squareUpHighest : nextUpAnswer (square true) metre 1 ≡ goes 3
   -- water runs east along an odd row and west along an even one
-  pub oddRuns : (highest : Bool) → nextDownAnswer (oddChannel highest) 5 ≡ goes 6
-  pub oddPit : (highest : Bool) → nextDownAnswer (oddChannel highest) 6 ≡ goes 6
-  pub evenRuns : (highest : Bool) → nextDownAnswer (evenChannel highest) 10 ≡ goes 9
-  pub evenPit : (highest : Bool) → nextDownAnswer (evenChannel highest) 9 ≡ goes 9
+  pub oddRuns : (highest : Bool) → nextDownAnswer (oddChannel highest) metre 5 ≡ goes 6
+  pub oddPit : (highest : Bool) → nextDownAnswer (oddChannel highest) metre 6 ≡ goes 6
+  pub evenRuns : (highest : Bool) → nextDownAnswer (evenChannel highest) metre 10 ≡ goes 9
+  pub evenPit : (highest : Bool) → nextDownAnswer (evenChannel highest) metre 9 ≡ goes 9
   -- so out of the bay, without a pit: along row 1, and to it from row 2, by rule 1 to the post that is driven past first, by rule 2 straight
-  pub bayFirst : (highest : Bool) → nextDownAnswer (bay highest) 5 ≡ goes 6
-  pub bayMouth : (highest : Bool) → nextDownAnswer (bay highest) 6 ≡ goes 7
-  pub bayBack : nextDownAnswer (bay false) 9 ≡ goes 6
-  pub bayBackHighest : nextDownAnswer (bay true) 9 ≡ goes 5
+  pub bayFirst : (highest : Bool) → nextDownAnswer (bay highest) metre 5 ≡ goes 6
+  pub bayMouth : (highest : Bool) → nextDownAnswer (bay highest) metre 6 ≡ goes 7
+  pub bayBack : nextDownAnswer (bay false) metre 9 ≡ goes 6
+  pub bayBackHighest : nextDownAnswer (bay true) metre 9 ≡ goes 5
+
+-- slopes from the middle post of nine: to the east, south and south-east, and by rule 1 to the north-west, where they make it a saddle;
+-- 12 30 30 / 30 20 10 / 30 14 9
+abbrev pub fork : Bool → Plot
+fork highest = ruled highest 3 3 (pos 12 ∷ pos 30 ∷ pos 30 ∷ pos 30 ∷ pos 20 ∷ pos 10 ∷ pos 30 ∷ pos 14 ∷ pos 9 ∷ [])
+
+-- by spacings of 3 and 4, so 5 across, the slopes to the east, the south and the south-east are equal: down, 30 30 30 / 30 20 14 / 30 12 10, and up,
+-- 0 0 0 / 0 20 26 / 0 28 30
+abbrev pub fall : Bool → Plot
+fall highest = ruled highest 3 3 (replicate 4 (pos 30) ++ pos 20 ∷ pos 14 ∷ pos 30 ∷ pos 12 ∷ pos 10 ∷ [])
+
+abbrev pub rise : Bool → Plot
+rise highest = ruled highest 3 3 (replicate 4 (pos 0) ++ pos 20 ∷ pos 26 ∷ pos 0 ∷ pos 28 ∷ pos 30 ∷ [])
+
+-- a saddle on the border, by rule 2: its lower run 1 is post 0 and the virtual pit; 2 5 9 / 9 1 9 / 9 9 9
+abbrev pub brink : Plot
+brink = ruled true 3 3 (pos 2 ∷ pos 5 ∷ pos 9 ∷ pos 9 ∷ pos 1 ∷ replicate 4 (pos 9))
+
+-- turned away, with place 0
+abbrev pub stays : ℕ → Next
+stays code = record { code = code; place = 0; post = 0 }
+
+pub record SlopedGround : Type 0 where
+  -- equal spacings do not mean the lowest neighbour, post 8: across it is further
+  pub across : (highest : Bool) → nextDownAnswer (fork highest) metre 4 ≡ goes 5
+  -- the longer spacing turns the line: with posts twice as far apart along a row, to the south; along a column, east as before
+  pub longRow : (highest : Bool) → nextDownAnswer (fork highest) (spacings 200 100) 4 ≡ goes 7
+  pub longColumn : (highest : Bool) → nextDownAnswer (fork highest) (spacings 100 200) 4 ≡ goes 5
+  -- the water lines of the saddle and its run: to its steepest member, and on to the virtual pit
+  pub forkLine : thalwegList (fork false) metre 4 0 (entries 3) ≡ 4 ∷ 5 ∷ 65535 ∷ []
+  pub forkLongRow : thalwegList (fork false) (spacings 200 100) 4 0 (entries 3) ≡ 4 ∷ 7 ∷ 65535 ∷ []
+  -- a run that holds the virtual pit goes there, whatever else it holds
+  pub brinkLine : thalwegList brink metre 1 1 (entries 2) ≡ 1 ∷ 65535 ∷ []
+  -- of equal slopes the lower, upward the higher; with a little more along the row, to the south
+  pub equalDown : (highest : Bool) → nextDownAnswer (fall highest) (spacings 3 4) 4 ≡ goes 8
+  pub equalUp : (highest : Bool) → nextUpAnswer (rise highest) (spacings 3 4) 4 ≡ goes 8
+  pub unequal : (highest : Bool) → nextDownAnswer (fall highest) (spacings 4 4) 4 ≡ goes 7
+  -- spacings outside 1 to 1,000, after sides outside theirs, before heights of another number
+  pub none : nextDownAnswer (fork false) (spacings 0 100) 4 ≡ stays 15
+  pub more : nextDownAnswer (fork false) (spacings 100 1001) 4 ≡ stays 15
+  pub most : (highest : Bool) → nextDownAnswer (fork highest) (spacings 1000 1000) 4 ≡ goes 5
+  pub noneFlat : nextDownAnswer (plot 1 3 []) (spacings 0 100) 4 ≡ stays 1
+  pub noneShort : nextDownAnswer (plot 3 3 []) (spacings 100 0) 4 ≡ stays 15
+  pub short : nextDownAnswer (plot 3 3 []) metre 4 ≡ stays 2
+
+-- a 2 by 2 file of version 2 by the bytes of its spacings, all heights 0
+abbrev pub spacedFile : List ℕ → List ℕ
+spacedFile bytes =
+    2
+    ∷ 0 ∷ 0 ∷ 0 ∷ 22
+    ∷ 2 ∷ 2
+    ∷ bytes
+    ++ replicate 16 0
+
+-- what reading answers, into four heights
+abbrev pub readBy : List ℕ → Size
+readBy file = readAnswer file (replicate 4 (pos 7))
+
+abbrev pub unread : ℕ → Size
+unread code = record { code = code; place = 0; rows = 0; columns = 0; east = 0; south = 0 }
+
+pub record ExampleFiles : Type 0 where
+  -- along a row first: 300 and 4
+  pub spaced : readBy (spacedFile (1 ∷ 44 ∷ 0 ∷ 4 ∷ [])) ≡ read 2 2 (spacings 300 4)
+  pub spacedHeights : readHeights (spacedFile (1 ∷ 44 ∷ 0 ∷ 4 ∷ [])) (replicate 4 (pos 7)) ≡ replicate 4 (pos 0)
+  -- and so it is written
+  pub written : fileOf flat (spacings 300 4) ≡ spacedFile (1 ∷ 44 ∷ 0 ∷ 4 ∷ [])
+  -- 10: version 2 in 8 bytes, whatever its sides; 11: version 3 in 8 bytes, and version 0
+  pub cut : readBy (2 ∷ 0 ∷ 0 ∷ 0 ∷ 3 ∷ 1 ∷ 2 ∷ 0 ∷ []) ≡ unread 10
+  pub version : readBy (3 ∷ 0 ∷ 0 ∷ 0 ∷ 3 ∷ 2 ∷ 2 ∷ 0 ∷ []) ≡ unread 11
+  pub noVersion : readBy (0 ∷ 0 ∷ 0 ∷ 0 ∷ 2 ∷ 2 ∷ 2 ∷ []) ≡ unread 11
+  -- 15: no spacing along a row; 1,001 along a column; before a count that is wrong too. 12: version 2 with the count of version 1
+  pub noSpacing : readBy (spacedFile (0 ∷ 0 ∷ 0 ∷ 4 ∷ [])) ≡ unread 15
+  pub farApart : readBy (spacedFile (1 ∷ 44 ∷ 3 ∷ 233 ∷ [])) ≡ unread 15
+  pub noSpacingCut : readBy (2 ∷ 0 ∷ 0 ∷ 0 ∷ 6 ∷ 2 ∷ 2 ∷ 0 ∷ 0 ∷ 0 ∷ 4 ∷ []) ≡ unread 15
+  pub count : readBy (2 ∷ 0 ∷ 0 ∷ 0 ∷ 18 ∷ 2 ∷ 2 ∷ 0 ∷ 1 ∷ 0 ∷ 1 ∷ replicate 12 0) ≡ unread 12
 
 -- settings sheets, by the bytes of their entries
 abbrev pub sheet : List ℕ → List ℕ

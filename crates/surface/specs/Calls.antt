@@ -10,7 +10,7 @@ use Rattle.surface.specs.Plot.{Plot, posts, reshot}
 use Rattle.surface.specs.Marks.{markAt, marksOf, redrawn, peaks, pits, saddles}
 use Rattle.surface.specs.Codes.{ringBytes, runsBelow}
 use Rattle.surface.specs.Lines.{Descent, next, line, down, up, dalesOf, hillsOf}
-use Rattle.surface.specs.SurveyFile.{heightsIn, fileOf}
+use Rattle.surface.specs.SurveyFile.{spacingsIn, heightsIn, fileOf}
 use Rattle.surface.specs.Settings.{ruleIn, nameIn, nameBytes}
 use Rattle.surface.specs.Refusals.{settled, sheetVerdict, settingsVerdict, surveyVerdict, reshootVerdict, ringVerdict, nextVerdict, lineVerdict, partsVerdict, readVerdict, writeVerdict}
 use Rattle.surface.specs.declared.Answer.{Answer}
@@ -20,6 +20,7 @@ use Rattle.surface.specs.declared.RingMark.{RingMark}
 use Rattle.surface.specs.declared.Next.{Next}
 use Rattle.surface.specs.declared.Entries.{Entries}
 use Rattle.surface.specs.declared.Size.{Size}
+use Rattle.surface.specs.declared.Spacings.{Spacings}
 
 -- a sheet's rule and the length of its name, by a verdict
 abbrev pub saidBy : Answer → List ℕ → Sheet
@@ -51,7 +52,7 @@ settingsAnswer sheet name = saidBy (settingsVerdict sheet name) sheet
 unfoldable pub settingsName : List ℕ → List ℕ → List ℕ
 settingsName sheet name = settled (settingsVerdict sheet name) (nameBytes sheet) name
 
--- The calls of a plot, which is lent as sheet, rows, columns and heights, or, to write a file, without a sheet.
+-- The calls of a plot, which is lent as sheet, rows, columns and heights.
 module _ (pl : Plot) where
   -- survey(sheet, rows, columns, heights, marks)
   unfoldable pub surveyMarks : List ℕ → List ℕ
@@ -87,64 +88,73 @@ module _ (pl : Plot) where
   unfoldable pub ringList : ℕ → List ℕ → List ℕ
   ringList post ring = settled (ringVerdict pl post ring) (ringBytes pl post) ring
 
-  -- next_down(sheet, rows, columns, heights, post), next_up(..)
+-- Those that take the spacings of its posts too, after the columns; to write a file, without a sheet.
+module _ (pl : Plot) (s : Spacings) where
+  -- next_down(sheet, rows, columns, along_row, along_column, heights, post), next_up(..)
   abbrev pub nextAnswer : Descent → ℕ → Next
   nextAnswer d post =
-      let v = nextVerdict pl post in
+      let v = nextVerdict pl s post in
       record { code = v .code; place = v .place; post = settled v (next d post) 0 }
 
   unfoldable pub nextDownAnswer : ℕ → Next
-  nextDownAnswer = nextAnswer (down pl)
+  nextDownAnswer = nextAnswer (down pl s)
 
   unfoldable pub nextUpAnswer : ℕ → Next
-  nextUpAnswer = nextAnswer (up pl)
+  nextUpAnswer = nextAnswer (up pl s)
 
-  -- thalweg(sheet, rows, columns, heights, post, run, line), ridge(..): how many entries the line has, 0 where it was refused; and its list, with the
-  -- entries at the front, where later ones keep their content
+  -- thalweg(sheet, rows, columns, along_row, along_column, heights, post, run, line), ridge(..): how many entries the line has, 0 where it was refused; and
+  -- its list, with the entries at the front, where later ones keep their content
   abbrev pub lineAnswer : Descent → ℕ → ℕ → List ℕ → Entries
   lineAnswer d post run list =
-      let v = lineVerdict pl d post run list in
+      let v = lineVerdict pl s d post run list in
       record { code = v .code; place = v .place; count = settled v (length (line d (posts pl) post run)) 0 }
 
   abbrev pub lineList : Descent → ℕ → ℕ → List ℕ → List ℕ
   lineList d post run list =
       let entries = line d (posts pl) post run in
-      settled (lineVerdict pl d post run list) (entries ++ drop (length entries) list) list
+      settled (lineVerdict pl s d post run list) (entries ++ drop (length entries) list) list
 
   unfoldable pub thalwegAnswer : ℕ → ℕ → List ℕ → Entries
-  thalwegAnswer = lineAnswer (down pl)
+  thalwegAnswer = lineAnswer (down pl s)
 
   unfoldable pub thalwegList : ℕ → ℕ → List ℕ → List ℕ
-  thalwegList = lineList (down pl)
+  thalwegList = lineList (down pl s)
 
   unfoldable pub ridgeAnswer : ℕ → ℕ → List ℕ → Entries
-  ridgeAnswer = lineAnswer (up pl)
+  ridgeAnswer = lineAnswer (up pl s)
 
   unfoldable pub ridgeList : ℕ → ℕ → List ℕ → List ℕ
-  ridgeList = lineList (up pl)
+  ridgeList = lineList (up pl s)
 
-  -- dales_and_hills(sheet, rows, columns, heights, dales, hills)
+  -- dales_and_hills(sheet, rows, columns, along_row, along_column, heights, dales, hills)
   unfoldable pub partsAnswer : List ℕ → List ℕ → Answer
-  partsAnswer dales hills = partsVerdict pl dales hills
+  partsAnswer dales hills = partsVerdict pl s dales hills
 
   unfoldable pub partsDales : List ℕ → List ℕ → List ℕ
-  partsDales dales hills = settled (partsVerdict pl dales hills) (dalesOf pl) dales
+  partsDales dales hills = settled (partsVerdict pl s dales hills) (dalesOf pl s) dales
 
   unfoldable pub partsHills : List ℕ → List ℕ → List ℕ
-  partsHills dales hills = settled (partsVerdict pl dales hills) (hillsOf pl) hills
+  partsHills dales hills = settled (partsVerdict pl s dales hills) (hillsOf pl s) hills
 
-  -- write_survey(rows, columns, heights, file)
+  -- write_survey(rows, columns, along_row, along_column, heights, file)
   unfoldable pub writeAnswer : List ℕ → Answer
-  writeAnswer file = writeVerdict pl file
+  writeAnswer file = writeVerdict pl s file
 
   unfoldable pub writeFile : List ℕ → List ℕ
-  writeFile file = settled (writeVerdict pl file) (fileOf pl) file
+  writeFile file = settled (writeVerdict pl s file) (fileOf pl s) file
 
 -- read_survey(file, heights)
 unfoldable pub readAnswer : List ℕ → List ℤ → Size
 readAnswer file hs =
     let v = readVerdict file hs in
-    record { code = v .code; place = v .place; rows = settled v (getD file 5 0) 0; columns = settled v (getD file 6 0) 0 }
+    record {
+      code = v .code;
+      place = v .place;
+      rows = settled v (getD file 5 0) 0;
+      columns = settled v (getD file 6 0) 0;
+      east = settled v (spacingsIn file .east) 0;
+      south = settled v (spacingsIn file .south) 0;
+    }
 
 unfoldable pub readHeights : List ℕ → List ℤ → List ℤ
 readHeights file hs = settled (readVerdict file hs) (heightsIn file (getD file 5 0 * getD file 6 0)) hs

@@ -10,10 +10,11 @@ use Rattle.surface.specs.Lists.{listOf, any, count, lastOr, one}
 use Rattle.surface.specs.Plot.{Plot, posts, over, virtualPit, below, reversed}
 use Rattle.surface.specs.Edges.{Edge, fallsIn, ringOf, lowerRuns, upperRuns}
 use Rattle.surface.specs.Marks.{marksOf}
-use Rattle.surface.specs.Lines.{fallsFrom, OnePiece}
+use Rattle.surface.specs.Lines.{fallsFrom, OnePiece, Spaced}
 use Rattle.surface.specs.Calls.{surveyAnswer, surveyMarks, thalwegAnswer, thalwegList, ridgeAnswer, ridgeList, partsAnswer, partsDales, partsHills}
 use Rattle.surface.specs.Series.{Reshoot, Marked, afterCalls, Kept, plainAll}
 use Rattle.surface.specs.declared.Entries.{Entries}
+use Rattle.surface.specs.declared.Spacings.{Spacings}
 
 -- how many of the posts 0 to n - 1 and the virtual pit are named in a list
 unfoldable pub namesIn : ℕ → List ℕ → ℕ
@@ -73,14 +74,14 @@ module _ (pl : Plot) where
   IsPeak p = (p < posts pl) × (any (λ q. below pl p q) (ringOf pl p) ≡ false)
 
   -- what dales_and_hills leaves in lists of the right size; dales number the pits, hills the peaks, as a survey counts them
-  pub record Parted (dales hills : List ℕ) : Type 0 where
-    pub accepted : partsAnswer pl dales hills .code ≡ 0
+  pub record Parted (s : Spacings) (dales hills : List ℕ) : Type 0 where
+    pub accepted : partsAnswer pl s dales hills .code ≡ 0
     pub intoDales : (lent : List ℕ) → length lent ≡ posts pl
-        → Parts (posts pl) EdgeOf IsPit (InDale (posts pl) (partsDales pl dales hills)) (partsDales pl dales hills) (surveyAnswer pl lent .pits)
+        → Parts (posts pl) EdgeOf IsPit (InDale (posts pl) (partsDales pl s dales hills)) (partsDales pl s dales hills) (surveyAnswer pl lent .pits)
     pub intoHills : (lent : List ℕ) → length lent ≡ posts pl
-        → Parts (posts pl) EdgeOf IsPeak (InHill (posts pl) (partsHills pl dales hills)) (partsHills pl dales hills) (surveyAnswer pl lent .peaks)
+        → Parts (posts pl) EdgeOf IsPeak (InHill (posts pl) (partsHills pl s dales hills)) (partsHills pl s dales hills) (surveyAnswer pl lent .peaks)
 
-  -- what holds of heights and the marks beside them
+  -- what holds of heights and the marks beside them; of lines, dales and hills by every pair of spacings in range
   pub record Surveyed (marks : List ℕ) : Type 0 where
     -- the marks are exactly those of a fresh survey
     pub marked : marks ≡ marksOf pl
@@ -89,11 +90,13 @@ module _ (pl : Plot) where
     pub balance : (lent : List ℕ) → length lent ≡ posts pl
         → surveyAnswer pl lent .peaks + surveyAnswer pl lent .pits ≡ 2 + surveyAnswer pl lent .saddles
     -- every water line falls at every step in the height order and ends at a pit
-    pub thalwegs : Lines (posts pl) (below pl) IsPit marks (lowerRuns (below pl) (ringOf pl)) (thalwegAnswer pl) (thalwegList pl)
+    pub thalwegs : (s : Spacings) → Spaced s
+        → Lines (posts pl) (below pl) IsPit marks (lowerRuns (below pl) (ringOf pl)) (thalwegAnswer pl s) (thalwegList pl s)
     -- every crest line rises so and ends at a peak
-    pub ridges : Lines (posts pl) (reversed (below pl)) IsPeak marks (upperRuns (below pl) (ringOf pl)) (ridgeAnswer pl) (ridgeList pl)
+    pub ridges : (s : Spacings) → Spaced s
+        → Lines (posts pl) (reversed (below pl)) IsPeak marks (upperRuns (below pl) (ringOf pl)) (ridgeAnswer pl s) (ridgeList pl s)
     -- every post lies in exactly one dale and one hill; dales number the pits, hills the peaks, and each is in one piece along edges
-    pub parted : (dales hills : List ℕ) → length dales ≡ posts pl → length hills ≡ posts pl → Parted dales hills
+    pub parted : (s : Spacings) → Spaced s → (dales hills : List ℕ) → length dales ≡ posts pl → length hills ≡ posts pl → Parted s dales hills
 
 -- the two lists as a survey left them
 abbrev pub surveyed : Plot → List ℕ → Marked

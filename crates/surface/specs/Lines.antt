@@ -1,13 +1,15 @@
 -- docs/SPECIFICATION.md, "Lines, dales and hills". Stated once, over any order, rings and choice among lower neighbours: a thalweg (water line) is a
 -- line downward, a ridge (crest line) a line upward, which is a line in the reversed order; dales and hills likewise.
-use Prim.Native.Nat.{ℕ, zero, suc}
-use mathlib.Core.Bool.{Bool, true, cond, not, _&&_, _||_}
+use Prim.Native.Nat.{ℕ, zero, suc, _+_, _*_, _≤_}
+use mathlib.Core.Bool.{Bool, true, false, cond, not, _&&_, _||_}
 use mathlib.Core.List.{List, [], _∷_}
-use lib.Dec.{eqb}
+use lib.Dec.{ltb, leb, eqb}
+use lib.IntN.{_-ℤ_, natAbs}
 use lib.ListN.{getD}
 use Rattle.surface.specs.Lists.{listOf, filter, any}
-use Rattle.surface.specs.Plot.{Plot, posts, virtualPit, below, reversed}
+use Rattle.surface.specs.Plot.{Plot, posts, row, column, height, virtualPit, below, directed}
 use Rattle.surface.specs.Edges.{lowest, ringOf, lowerRuns}
+use Rattle.surface.specs.declared.Spacings.{Spacings}
 
 -- A descent: an order, rings, and `pick`, which chooses one of a post's lower neighbours; it may look at the post.
 pub record Descent : Type 0 where
@@ -59,29 +61,66 @@ pub data Way (edge : ℕ → ℕ → Type 0) (member : ℕ → Type 0) : ℕ →
 abbrev pub OnePiece : (ℕ → ℕ → Type 0) → (ℕ → Type 0) → Type 0
 OnePiece edge member = (p q : ℕ) → member p → member q → Way edge member p q
 
--- the choice that is made: the lowest; upward the highest, which is the lowest in the reversed order
-abbrev pub lowestOf : (ℕ → ℕ → Bool) → ℕ → List ℕ → ℕ
-lowestOf lower p members = lowest lower members
+-- a spacing, the centimetres between neighbours in one row or in one column, is from 1 to 1,000
+abbrev pub isSpacing : ℕ → Bool
+isSpacing n = leb 1 n && leb n 1000
 
--- the two descents of a plot
-abbrev pub down : Plot → Descent
-down pl = record { lower = below pl; ring = ringOf pl; pick = lowestOf (below pl) }
+pub record Spaced (s : Spacings) : Type 0 where
+  pub eastSome : 1 ≤ s .east
+  pub eastMost : s .east ≤ 1000
+  pub southSome : 1 ≤ s .south
+  pub southMost : s .south ≤ 1000
 
-abbrev pub up : Plot → Descent
-up pl = record { lower = reversed (below pl); ring = ringOf pl; pick = lowestOf (reversed (below pl)) }
+abbrev pub spacings : ℕ → ℕ → Spacings
+spacings alongRow alongColumn = record { east = alongRow; south = alongColumn }
 
-abbrev pub toward : Bool → Plot → Descent
-toward upward pl = cond upward (up pl) (down pl)
+abbrev pub squared : ℕ → ℕ
+squared n = n * n
 
--- the pit that names the dale of a post, and the peak that names its hill
-unfoldable pub daleAt : Plot → ℕ → ℕ
-daleAt pl = end (down pl) (posts pl)
+-- the squared drop, or rise, along an edge; 0 where the heights are equal
+unfoldable pub squaredDrop : Plot → ℕ → ℕ → ℕ
+squaredDrop pl p q = squared (natAbs (height pl p -ℤ height pl q))
 
-unfoldable pub hillAt : Plot → ℕ → ℕ
-hillAt pl = end (up pl) (posts pl)
+module _ (pl : Plot) (s : Spacings) where
+  -- its squared length: along a row, along a column, or of a diagonal, where it is the sum of the two squares
+  unfoldable pub squaredLength : ℕ → ℕ → ℕ
+  squaredLength p q =
+      cond (eqb (row pl.columns p) (row pl.columns q)) (squared (s .east))
+      (cond (eqb (column pl.columns p) (column pl.columns q)) (squared (s .south)) (squared (s .east) + squared (s .south)))
 
-unfoldable pub dalesOf : Plot → List ℕ
-dalesOf pl = listOf (daleAt pl) (posts pl)
+  -- from p the slope to q, drop over length, is greater than the slope to r, compared by squares
+  unfoldable pub steeper : ℕ → ℕ → ℕ → Bool
+  steeper p q r = ltb (squaredDrop pl p r * squaredLength p q) (squaredDrop pl p q * squaredLength p r)
 
-unfoldable pub hillsOf : Plot → List ℕ
-hillsOf pl = listOf (hillAt pl) (posts pl)
+  -- from p, q is taken before r: it is steeper, or as steep and lower
+  abbrev pub before : (ℕ → ℕ → Bool) → ℕ → ℕ → ℕ → Bool
+  before lower p q r = steeper p q r || (not (steeper p r q) && lower q r)
+
+  -- the choice that is made from p: the virtual pit where it is a member, else the first in that order
+  unfoldable pub steepest : (ℕ → ℕ → Bool) → ℕ → List ℕ → ℕ
+  steepest lower p members = cond (any (λ q. eqb q virtualPit) members) virtualPit (lowest (before lower p) members)
+
+  -- the two descents of a plot; upward the order is reversed, so that of equal slopes the higher is chosen
+  abbrev pub toward : Bool → Descent
+  toward upward =
+      let lower = directed upward (below pl) in
+      record { lower = lower; ring = ringOf pl; pick = steepest lower }
+
+  abbrev pub down : Descent
+  down = toward false
+
+  abbrev pub up : Descent
+  up = toward true
+
+  -- the pit that names the dale of a post, and the peak that names its hill
+  unfoldable pub daleAt : ℕ → ℕ
+  daleAt = end down (posts pl)
+
+  unfoldable pub hillAt : ℕ → ℕ
+  hillAt = end up (posts pl)
+
+  unfoldable pub dalesOf : List ℕ
+  dalesOf = listOf daleAt (posts pl)
+
+  unfoldable pub hillsOf : List ℕ
+  hillsOf = listOf hillAt (posts pl)

@@ -9,10 +9,11 @@ use lib.ListN.{length, getD, take, replicate}
 use Rattle.surface.specs.Lists.{listOf, lastOr}
 use Rattle.surface.specs.Plot.{Plot, posts, virtualPit}
 use Rattle.surface.specs.Marks.{markAt, marksOf, peaks, pits, saddles}
-use Rattle.surface.specs.Lines.{Descent, runsOf, line, down, up}
+use Rattle.surface.specs.Lines.{Descent, runsOf, line, down, up, spacings}
 use Rattle.surface.specs.SurveyFile.{fileOf}
 use Rattle.surface.specs.Calls.{sheetSays, plotBy, readAnswer, readHeights}
-use Rattle.surface.specs.Bench.{star}
+use Rattle.surface.specs.Bench.{star, metre}
+use Rattle.surface.specs.declared.Spacings.{Spacings}
 
 -- a number in decimal digits, without leading zeros; ten digits are enough for 32 bits
 unfoldable pub digits : ℕ → ℕ → List ℕ
@@ -49,16 +50,16 @@ module _ (pl : Plot) where
   abbrev pub linesText : ℕ → Descent → ℕ → List ℕ
   linesText letter d p = flatten (listOf (λ run. lineText letter p run (line d (posts pl) p run)) (length (runsOf d p)))
 
-  -- its water lines, T, then its crest lines, R
-  unfoldable pub saddleLines : ℕ → List ℕ
-  saddleLines p = linesText 84 (down pl) p ++ linesText 82 (up pl) p
+  -- its water lines, T, then its crest lines, R, by these spacings
+  unfoldable pub saddleLines : Spacings → ℕ → List ℕ
+  saddleLines s p = linesText 84 (down pl s) p ++ linesText 82 (up pl s) p
 
-  unfoldable pub postLines : ℕ → List ℕ
-  postLines p = cond (ltb (markAt pl p) 3) [] (saddleLines p)
+  unfoldable pub postLines : Spacings → ℕ → List ℕ
+  postLines s p = cond (ltb (markAt pl p) 3) [] (saddleLines s p)
 
   -- the saddles in post order
-  unfoldable pub plotText : List ℕ
-  plotText = headLine ++ flatten (listOf postLines (posts pl))
+  unfoldable pub plotText : Spacings → List ℕ
+  plotText s = headLine ++ flatten (listOf (postLines s) (posts pl))
 
 -- a refusal: E, number, place
 unfoldable pub refusedText : ℕ → ℕ → List ℕ
@@ -69,7 +70,9 @@ unfoldable pub fileListing : List ℕ → List ℕ → List ℕ
 fileListing sheet file =
     let lent = replicate (getD file 5 0 * getD file 6 0) (pos 0) in
     let a = readAnswer file lent in
-    cond (eqb (a .code) 0) (plotText (plotBy sheet (a .rows) (a .columns) (readHeights file lent))) (refusedText (a .code) (a .place))
+    cond (eqb (a .code) 0)
+    (plotText (plotBy sheet (a .rows) (a .columns) (readHeights file lent)) (spacings (a .east) (a .south)))
+    (refusedText (a .code) (a .place))
 
 -- a refusal of the sheet comes first
 unfoldable pub listing : List ℕ → List ℕ → List ℕ
@@ -77,16 +80,16 @@ listing sheet file =
     let said = sheetSays sheet in
     cond (eqb (said .code) 0) (fileListing sheet file) (refusedText (said .code) (said .place))
 
--- at most 43 bytes of the sheet and 57,608 of standard input are looked at. (No contract speaks of what a program reads or prints: that the lister prints
+-- at most 43 bytes of the sheet and 57,612 of standard input are looked at. (No contract speaks of what a program reads or prints: that the lister prints
 -- this is tested.)
 unfoldable pub printed : List ℕ → List ℕ → List ℕ
-printed sheet input = listing (take 43 sheet) (take 57608 input)
+printed sheet input = listing (take 43 sheet) (take 57612 input)
 
 -- the listing of the star plot
 --     N 3 3 4 1 3 / T 4 0 V / T 4 1 V / T 4 2 V / T 4 3 V / R 4 0 1 / R 4 1 5 / R 4 2 7 / R 4 3 3
 abbrev pub StarListing : Type 0
 StarListing =
-    printed [] (fileOf star)
+    printed [] (fileOf star metre)
     ≡ textLine 78 ((51 ∷ []) ∷ (51 ∷ []) ∷ (52 ∷ []) ∷ (49 ∷ []) ∷ (51 ∷ []) ∷ [])
     ++ textLine 84 ((52 ∷ []) ∷ (48 ∷ []) ∷ (86 ∷ []) ∷ [])
     ++ textLine 84 ((52 ∷ []) ∷ (49 ∷ []) ∷ (86 ∷ []) ∷ [])

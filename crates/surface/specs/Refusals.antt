@@ -9,10 +9,11 @@ use Rattle.surface.specs.Lists.{firstNot}
 use Rattle.surface.specs.Plot.{Plot, posts, isSide, isHeight}
 use Rattle.surface.specs.Marks.{markAt}
 use Rattle.surface.specs.Codes.{ringLength}
-use Rattle.surface.specs.Lines.{Descent, runsOf, line}
-use Rattle.surface.specs.SurveyFile.{statedCount, countFor, fileSize, isTenths, tenthsOf}
+use Rattle.surface.specs.Lines.{Descent, runsOf, line, isSpacing}
+use Rattle.surface.specs.SurveyFile.{versionIn, headerFor, statedCount, countFor, fileSize, spacingsIn, isTenths, tenthsOf}
 use Rattle.surface.specs.Settings.{isBadSheet, hasBadEntry, nameLength}
 use Rattle.surface.specs.declared.Answer.{Answer}
+use Rattle.surface.specs.declared.Spacings.{Spacings}
 
 -- a row of the table: when it holds, what is returned and the place
 pub record Row : Type 0 where
@@ -80,18 +81,18 @@ row8 d post run = rowOf 8 (not (ltb run (length (runsOf d post))))
 abbrev pub row9 : List ℕ → List ℕ → Row
 row9 entries list = rowOf 9 (ltb (length list) (length entries))
 
--- 10: file under 7 bytes
-abbrev pub row10 : List ℕ → Row
-row10 file = rowOf 10 (ltb (length file) 7)
+-- 10: file under 7 bytes; of version 2, under 11
+abbrev pub row10 : List ℕ → ℕ → Row
+row10 file least = rowOf 10 (ltb (length file) least)
 
--- 11: version not 1
+-- 11: version neither 1 nor 2
 abbrev pub row11 : List ℕ → Row
-row11 file = rowOf 11 (not (eqb (getD file 0 0) 1))
+row11 file = rowOf 11 (not (eqb (versionIn file) 1 || eqb (versionIn file) 2))
 
 -- 12: stated count differs from the bytes present after it, or from the count rule
 abbrev pub row12 : List ℕ → ℕ → ℕ → Row
 row12 file rows columns =
-    rowOf 12 (not (eqb (statedCount file) (length file - 5)) || not (eqb (statedCount file) (countFor rows columns)))
+    rowOf 12 (not (eqb (statedCount file) (length file - 5)) || not (eqb (statedCount file) (countFor (versionIn file) rows columns)))
 
 -- 13: a bad settings sheet; 14: a bad entry of it
 abbrev pub row13 : Bool → Row
@@ -100,13 +101,17 @@ row13 badSheet = rowOf 13 badSheet
 abbrev pub row14 : Bool → Row
 row14 badEntry = rowOf 14 badEntry
 
+-- 15: a spacing outside 1 to 1,000
+abbrev pub row15 : Spacings → Row
+row15 s = rowOf 15 (not (isSpacing (s .east) && isSpacing (s .south)))
+
 -- the rows of a settings sheet, which go before all others
 abbrev pub sheetRows : Bool → Bool → List Row
 sheetRows badSheet badEntry = row13 badSheet ∷ row14 badEntry ∷ []
 
 -- What each call is turned away for.
 module _ (pl : Plot) where
-  -- the rows that lead every call with a settings sheet
+  -- the rows that lead a call with a settings sheet and no spacings
   abbrev pub leading : List Row
   leading = sheetRows pl.badSheet pl.badEntry ++ row1 pl.rows pl.columns ∷ row2 pl ∷ []
 
@@ -119,14 +124,20 @@ module _ (pl : Plot) where
   unfoldable pub ringVerdict : ℕ → List ℕ → Answer
   ringVerdict post ring = verdict (leading ++ row3 ring ringLength ∷ row4 isHeight pl.heights ∷ row5 pl post ∷ [])
 
+-- and of the calls with spacings
+module _ (pl : Plot) (s : Spacings) where
+  -- the rows that lead those with a settings sheet: 15 stands directly after 1
+  abbrev pub leadingSpaced : List Row
+  leadingSpaced = sheetRows pl.badSheet pl.badEntry ++ row1 pl.rows pl.columns ∷ row15 s ∷ row2 pl ∷ []
+
   unfoldable pub nextVerdict : ℕ → Answer
-  nextVerdict post = verdict (leading ++ row4 isHeight pl.heights ∷ row5 pl post ∷ [])
+  nextVerdict post = verdict (leadingSpaced ++ row4 isHeight pl.heights ∷ row5 pl post ∷ [])
 
   -- of a line downward or upward
   unfoldable pub lineVerdict : Descent → ℕ → ℕ → List ℕ → Answer
   lineVerdict d post run list =
       verdict
-      (leading
+      (leadingSpaced
       ++ row4 isHeight pl.heights
       ∷ row5 pl post
       ∷ row7 pl post
@@ -136,11 +147,11 @@ module _ (pl : Plot) where
 
   unfoldable pub partsVerdict : List ℕ → List ℕ → Answer
   partsVerdict dales hills =
-      verdict (leading ++ rowOf 3 (isNot dales (posts pl) || isNot hills (posts pl)) ∷ row4 isHeight pl.heights ∷ [])
+      verdict (leadingSpaced ++ rowOf 3 (isNot dales (posts pl) || isNot hills (posts pl)) ∷ row4 isHeight pl.heights ∷ [])
 
   unfoldable pub writeVerdict : List ℕ → Answer
   writeVerdict file =
-      verdict (row1 pl.rows pl.columns ∷ row2 pl ∷ row3 file (fileSize pl.rows pl.columns) ∷ row4 isHeight pl.heights ∷ [])
+      verdict (row1 pl.rows pl.columns ∷ row15 s ∷ row2 pl ∷ row3 file (fileSize 2 pl.rows pl.columns) ∷ row4 isHeight pl.heights ∷ [])
 
 -- of a settings sheet alone, and with a list that receives the name
 unfoldable pub sheetVerdict : List ℕ → Answer
@@ -155,9 +166,11 @@ readVerdict file hs =
     let rows = getD file 5 0 in
     let columns = getD file 6 0 in
     verdict
-    (row10 file
+    (row10 file 7
     ∷ row11 file
+    ∷ row10 file (headerFor (versionIn file))
     ∷ row1 rows columns
+    ∷ row15 (spacingsIn file)
     ∷ row12 file rows columns
     ∷ row3 hs (rows * columns)
     ∷ row4 isTenths (tenthsOf file (rows * columns))

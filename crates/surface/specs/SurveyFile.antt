@@ -1,20 +1,22 @@
 -- docs/SPECIFICATION.md, "Survey file".
 --
---     byte   0        1 .. 4               5      6         7 .. 10        11 .. 14       ..
---            version  bytes that follow    rows   columns   post 0         post 1         ..
---            1        unsigned             2 to 120         tenths of a millimetre, signed
+--     byte   0        1 .. 4               5      6         7 .. 8         9 .. 10        11 .. 14       ..
+--            version  bytes that follow    rows   columns   along a row    along a column post 0         ..
+--            2        unsigned             2 to 120         spacings in centimetres       tenths of a millimetre, signed
 --
--- All numbers are big-endian.
+-- All numbers are big-endian. Version 1 has no spacings, so that the heights begin at byte 7; it is read as if both were 100.
 use Prim.Native.Nat.{ℕ, _+_, _-_, _*_, _/_, _%_}
 use mathlib.Core.Bool.{Bool, cond, not, _&&_}
 use mathlib.Core.List.{List, [], _∷_, _++_, map}
-use lib.Dec.{ltb}
+use lib.Dec.{ltb, eqb}
 use lib.IntN.{ℤ, pos, negsuc, _*ℤ_}
 use lib.Signed.{ltZ}
 use lib.ListN.{getD}
 use Rattle.surface.specs.Lists.{listOf}
 use Rattle.surface.specs.Plot.{Plot}
+use Rattle.surface.specs.Lines.{spacings}
 use Rattle.surface.specs.Rounding.{roundTiesToEven}
+use Rattle.surface.specs.declared.Spacings.{Spacings}
 
 -- the big-endian 32-bit number at byte i
 unfoldable pub wordAt : List ℕ → ℕ → ℕ
@@ -32,15 +34,36 @@ unsigned (negsuc n) = 4294967295 - n
 unfoldable pub bytesOf : ℕ → List ℕ
 bytesOf n = n / 16777216 % 256 ∷ n / 65536 % 256 ∷ n / 256 % 256 ∷ n % 256 ∷ []
 
+-- the big-endian 16-bit number at byte i, and the two bytes of one
+abbrev pub halfAt : List ℕ → ℕ → ℕ
+halfAt file i = getD file i 0 * 256 + getD file (i + 1) 0
+
+unfoldable pub halfBytes : ℕ → List ℕ
+halfBytes n = n / 256 % 256 ∷ n % 256 ∷ []
+
+abbrev pub versionIn : List ℕ → ℕ
+versionIn file = getD file 0 0
+
 unfoldable pub statedCount : List ℕ → ℕ
 statedCount file = wordAt file 1
 
--- the count rule, and the size of a whole file
-abbrev pub countFor : ℕ → ℕ → ℕ
-countFor rows columns = 2 + 4 * (rows * columns)
+-- how many bytes stand between the count and the heights: the sides and, in version 2, the spacings; and how many stand before the heights
+abbrev pub detailsFor : ℕ → ℕ
+detailsFor version = cond (eqb version 1) 2 6
 
-abbrev pub fileSize : ℕ → ℕ → ℕ
-fileSize rows columns = 5 + countFor rows columns
+abbrev pub headerFor : ℕ → ℕ
+headerFor version = 5 + detailsFor version
+
+-- the count rule, and the size of a whole file
+abbrev pub countFor : ℕ → ℕ → ℕ → ℕ
+countFor version rows columns = detailsFor version + 4 * (rows * columns)
+
+abbrev pub fileSize : ℕ → ℕ → ℕ → ℕ
+fileSize version rows columns = 5 + countFor version rows columns
+
+-- the spacings of a file
+unfoldable pub spacingsIn : List ℕ → Spacings
+spacingsIn file = cond (eqb (versionIn file) 1) (spacings 100 100) (spacings (halfAt file 7) (halfAt file 9))
 
 -- a filed height is in tenths of a millimetre, from -10,000,000 to 10,000,000
 abbrev pub isTenths : ℤ → Bool
@@ -48,7 +71,7 @@ isTenths z = not (ltZ z (negsuc 9999999)) && not (ltZ (pos 10000000) z)
 
 -- the filed heights of n posts
 unfoldable pub tenthsOf : List ℕ → ℕ → List ℤ
-tenthsOf file n = listOf (λ i. signed (wordAt file (7 + 4 * i))) n
+tenthsOf file n = listOf (λ i. signed (wordAt file (headerFor (versionIn file) + 4 * i))) n
 
 -- tenths to whole millimetres, a half going to the even one
 unfoldable pub rounded : ℤ → ℤ
@@ -63,5 +86,13 @@ unfoldable pub filedHeights : List ℤ → List ℕ
 filedHeights [] = []
 filedHeights (z ∷ hs) = bytesOf (unsigned (z *ℤ pos 10)) ++ filedHeights hs
 
-unfoldable pub fileOf : Plot → List ℕ
-fileOf pl = 1 ∷ bytesOf (countFor pl.rows pl.columns) ++ pl.rows ∷ pl.columns ∷ filedHeights pl.heights
+-- a file that is written, of version 2
+unfoldable pub fileOf : Plot → Spacings → List ℕ
+fileOf pl s =
+    2
+    ∷ bytesOf (countFor 2 pl.rows pl.columns)
+    ++ pl.rows
+    ∷ pl.columns
+    ∷ halfBytes (s .east)
+    ++ halfBytes (s .south)
+    ++ filedHeights pl.heights

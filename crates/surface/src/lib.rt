@@ -37,6 +37,18 @@ pub const DOWN: bool = false;
 
 pub const UP: bool = true;
 
+// The least and the greatest spacing, in centimetres.
+pub const MIN_SPACING: u32 = 1;
+
+pub const MAX_SPACING: u32 = 1000;
+
+// The spacings, in centimetres: how far east the next post of a row stands, and how far south the next post of a column. (C has them as along_row and
+// along_column.)
+pub struct Spacings {
+    pub east: u32,
+    pub south: u32,
+}
+
 // The sides of a plot whose heights are lent beside it, and whether its cells are cut through their highest posts.
 pub struct Grid {
     pub rows: usize,
@@ -95,11 +107,13 @@ pub struct Entries {
     pub count: u32,
 }
 
-// sn_read_survey
+// sn_read_survey, with the spacings
 #[repr(C)]
 pub struct Size {
     pub code: u32,
     pub place: u32,
     pub rows: u32,
     pub columns: u32,
+    pub east: u32,
+    pub south: u32,
 }

@@ -1,21 +1,22 @@
 -- What acceptance says of each call: its lists and numbers are those of a plot.
-use Prim.Native.Nat.{ℕ, _*_, _-_, _<_, _≤_}
+use Prim.Native.Nat.{ℕ, _+_, _*_, _-_, _<_, _≤_}
 use native.Mathlib.Omega.{arith}
 use mathlib.Core.Path.{_≡_, _∙_, ap, ap₂}
-use mathlib.Core.Bool.{Bool, true, false, not}
+use mathlib.Core.Bool.{Bool, true, false, cond, not, _||_}
 use mathlib.Core.List.{List, [], _∷_}
-use borrow.Author.Tests.{ltb-true, ltb-false, eqb-true, eq-eqb, lt-ltb, le-ltb, not-false}
-use lib.Dec.{ltb, eqb}
+use borrow.Author.Tests.{ltb-true, ltb-false, eqb-true, eq-eqb, lt-ltb, le-ltb, leb-true, le-leb, not-false}
+use lib.Dec.{ltb, leb, eqb}
 use lib.IntN.{ℤ}
 use lib.ListN.{length, getD}
 use Rattle.surface.specs.Lists.{firstNot}
 use Rattle.surface.specs.Plot.{Plot, ruled, posts, isHeight, Sides, Valid, PostOf}
 use Rattle.surface.specs.Marks.{markAt}
 use Rattle.surface.specs.Codes.{ringLength}
-use Rattle.surface.specs.Lines.{Descent, runsOf, line}
-use Rattle.surface.specs.SurveyFile.{statedCount, countFor, fileSize, isTenths, tenthsOf}
-use Rattle.surface.specs.Refusals.{accepted, verdict, row1, row2, row4, leading, surveyVerdict, reshootVerdict, ringVerdict, lineVerdict, partsVerdict, readVerdict, writeVerdict}
-use Rattle.surface.proofs.General.Bools.{or-left, or-right}
+use Rattle.surface.specs.Lines.{Descent, runsOf, line, isSpacing, Spaced}
+use Rattle.surface.specs.SurveyFile.{versionIn, headerFor, statedCount, countFor, fileSize, spacingsIn, isTenths, tenthsOf}
+use Rattle.surface.specs.Refusals.{accepted, verdict, row1, row2, row4, row15, leading, leadingSpaced, surveyVerdict, reshootVerdict, ringVerdict, nextVerdict, lineVerdict, partsVerdict, readVerdict, writeVerdict}
+use Rattle.surface.specs.declared.Spacings.{Spacings}
+use Rattle.surface.proofs.General.Bools.{and-left, and-right, or-left, or-right}
 use Rattle.surface.proofs.General.FirstNot.{firstNot-le, ranged-all, all-firstNot}
 use Rattle.surface.proofs.AnyOrder.Grid.{test-sides, sides-test}
 use Rattle.surface.proofs.OfCalls.Verdicts.{passed, row-passed, none-left}
@@ -29,11 +30,36 @@ same : (m n : ℕ) → m ≡ n → not (eqb m n) ≡ false
 same m n e = ap not (eq-eqb m n e)
 
 -- the sides and the size of an accepted plot
-pub plot-sized : (pl : Plot) → verdict (row1 pl.rows pl.columns ∷ row2 pl ∷ []) .code ≡ 0 → Sides pl.rows pl.columns × (length pl.heights ≡ posts pl)
-plot-sized pl e = let row = passed (row1 pl.rows pl.columns ∷ row2 pl ∷ []) tt e in (test-sides _ _ (not-false _ (row 1)), equal _ _ (row 2))
+pub plot-sized :
+    (pl : Plot) (s : Spacings)
+    → verdict (row1 pl.rows pl.columns ∷ row15 s ∷ row2 pl ∷ []) .code ≡ 0
+    → Sides pl.rows pl.columns × (length pl.heights ≡ posts pl)
+plot-sized pl s e = let row = passed (row1 pl.rows pl.columns ∷ row15 s ∷ row2 pl ∷ []) tt e in (test-sides _ _ (not-false _ (row 1)), equal _ _ (row 2))
 
 pub led-sized : (pl : Plot) → verdict (leading pl) .code ≡ 0 → Sides pl.rows pl.columns × (length pl.heights ≡ posts pl)
 led-sized pl e = let row = passed (leading pl) tt e in (test-sides _ _ (not-false _ (row 1)), equal _ _ (row 2))
+
+-- spacings in range, by row 15 and for it
+pub row15-spaced : (s : Spacings) → row15 s .holds ≡ false → Spaced s
+row15-spaced s e =
+    let t = not-false _ e in
+    let east = and-left (isSpacing (s .east)) _ t in
+    let south = and-right (isSpacing (s .east)) _ t in
+    record {
+      eastSome = leb-true 1 (s .east) (and-left (leb 1 (s .east)) _ east);
+      eastMost = leb-true (s .east) 1000 (and-right (leb 1 (s .east)) _ east);
+      southSome = leb-true 1 (s .south) (and-left (leb 1 (s .south)) _ south);
+      southMost = leb-true (s .south) 1000 (and-right (leb 1 (s .south)) _ south);
+    }
+
+pub row15-passes : {s : Spacings} → Spaced s → row15 s .holds ≡ false
+row15-passes {s} h =
+    rw (le-leb 1 (s .east) (h .eastSome), le-leb (s .east) 1000 (h .eastMost), le-leb 1 (s .south) (h .southSome), le-leb (s .south) 1000 (h .southMost))
+
+pub spaced-sized : (pl : Plot) (s : Spacings) → verdict (leadingSpaced pl s) .code ≡ 0 → Sides pl.rows pl.columns × (length pl.heights ≡ posts pl) × Spaced s
+spaced-sized pl s e =
+    let row = passed (leadingSpaced pl s) tt e in
+    (test-sides _ _ (not-false _ (row 1)), equal _ _ (row 2), row15-spaced s (row 15))
 
 -- a plot whose settings sheet is not bad; which plot that is
 abbrev pub SheetPasses : Plot → Type 0
@@ -96,6 +122,13 @@ module _ (pl : Plot) where
         size = equal _ _ (row 3);
       }
 
+  -- next of a post, by spacings in range
+  pub next-valid : (s : Spacings) (post : ℕ) → nextVerdict pl s post .code ≡ 0 → PostOf pl post × Spaced s
+  unfolding nextVerdict
+  next-valid s post e =
+      let row = passed _ tt e in
+      (record { valid = valid (row 1) (row 2) (row 4); post = ltb-true post (posts pl) (not-false _ (row 5)) }, row15-spaced s (row 15))
+
   -- a line of a saddle, one of its runs, and a list that has room
   pub record ForLine (d : Descent) (post run : ℕ) (list : List ℕ) : Type 0 where
     pub postIn : post < posts pl
@@ -103,9 +136,9 @@ module _ (pl : Plot) where
     pub runIn : run < length (runsOf d post)
     pub room : length (line d (posts pl) post run) ≤ length list
 
-  pub line-valid : (d : Descent) (post run : ℕ) (list : List ℕ) → lineVerdict pl d post run list .code ≡ 0 → ForLine d post run list
+  pub line-valid : (s : Spacings) (d : Descent) (post run : ℕ) (list : List ℕ) → lineVerdict pl s d post run list .code ≡ 0 → ForLine d post run list
   unfolding lineVerdict
-  line-valid d post run list e =
+  line-valid s d post run list e =
       let row = passed _ tt e in
       record {
         postIn = ltb-true post (posts pl) (not-false _ (row 5));
@@ -114,8 +147,12 @@ module _ (pl : Plot) where
         room = ltb-false (length list) _ (row 9);
       }
 
+  pub line-spaced : (s : Spacings) (d : Descent) (post run : ℕ) (list : List ℕ) → lineVerdict pl s d post run list .code ≡ 0 → Spaced s
+  unfolding lineVerdict
+  line-spaced s d post run list e = row15-spaced s (passed _ tt e 15)
+
   -- and the other way: where all this is given, the call is accepted
-  module _ (v : Valid pl) (s : SheetPasses pl) where
+  module _ (v : Valid pl) (sheet : SheetPasses pl) where
     pub row1-passes : row1 pl.rows pl.columns .holds ≡ false
     row1-passes = ap not (sides-test (v .sides))
 
@@ -128,20 +165,21 @@ module _ (pl : Plot) where
     pub valid-survey : (marks : List ℕ) → length marks ≡ posts pl → surveyVerdict pl marks ≡ accepted
     unfolding surveyVerdict
     valid-survey marks h =
-        row-passed _ _ (s .0)
-        ∙ row-passed _ _ (s .1)
+        row-passed _ _ (sheet .0)
+        ∙ row-passed _ _ (sheet .1)
         ∙ row-passed _ _ row1-passes
         ∙ row-passed _ _ row2-passes
         ∙ row-passed _ _ (same _ _ h)
         ∙ row-passed _ _ row4-passes
         ∙ none-left
 
-    pub valid-line : (d : Descent) (post run : ℕ) (list : List ℕ) → ForLine d post run list → lineVerdict pl d post run list ≡ accepted
+    pub valid-line : {s : Spacings} → Spaced s → (d : Descent) (post run : ℕ) (list : List ℕ) → ForLine d post run list → lineVerdict pl s d post run list ≡ accepted
     unfolding lineVerdict
-    valid-line d post run list f =
-        row-passed _ _ (s .0)
-        ∙ row-passed _ _ (s .1)
+    valid-line spaced d post run list f =
+        row-passed _ _ (sheet .0)
+        ∙ row-passed _ _ (sheet .1)
         ∙ row-passed _ _ row1-passes
+        ∙ row-passed _ _ (row15-passes spaced)
         ∙ row-passed _ _ row2-passes
         ∙ row-passed _ _ row4-passes
         ∙ row-passed _ _ (ap not (lt-ltb post (posts pl) (f .postIn)))
@@ -150,25 +188,29 @@ module _ (pl : Plot) where
         ∙ row-passed _ _ (le-ltb (length list) _ (f .room))
         ∙ none-left
 
-    pub valid-parts : (dales hills : List ℕ) → length dales ≡ posts pl → length hills ≡ posts pl → partsVerdict pl dales hills ≡ accepted
+    pub valid-parts : {s : Spacings} → Spaced s → (dales hills : List ℕ) → length dales ≡ posts pl → length hills ≡ posts pl → partsVerdict pl s dales hills ≡ accepted
     unfolding partsVerdict
-    valid-parts dales hills h k =
-        row-passed _ _ (s .0)
-        ∙ row-passed _ _ (s .1)
+    valid-parts spaced dales hills h k =
+        row-passed _ _ (sheet .0)
+        ∙ row-passed _ _ (sheet .1)
         ∙ row-passed _ _ row1-passes
+        ∙ row-passed _ _ (row15-passes spaced)
         ∙ row-passed _ _ row2-passes
         ∙ row-passed _ _ (rw (same _ _ h) (same _ _ k))
         ∙ row-passed _ _ row4-passes
         ∙ none-left
 
   -- a file is written of a plot, into a list of its size
-  pub record ForWrite (file : List ℕ) : Type 0 where
+  pub record ForWrite (s : Spacings) (file : List ℕ) : Type 0 where
     pub valid : Valid pl
-    pub room : length file ≡ fileSize pl.rows pl.columns
+    pub spaced : Spaced s
+    pub room : length file ≡ fileSize 2 pl.rows pl.columns
 
-  pub write-valid : (file : List ℕ) → writeVerdict pl file .code ≡ 0 → ForWrite file
+  pub write-valid : (s : Spacings) (file : List ℕ) → writeVerdict pl s file .code ≡ 0 → ForWrite s file
   unfolding writeVerdict
-  write-valid file e = let row = passed _ tt e in record { valid = valid (row 1) (row 2) (row 4); room = equal _ _ (row 3) }
+  write-valid s file e =
+      let row = passed _ tt e in
+      record { valid = valid (row 1) (row 2) (row 4); spaced = row15-spaced s (row 15); room = equal _ _ (row 3) }
 
 -- the bytes of rows and of columns, and the posts that they say
 abbrev pub rowsIn : List ℕ → ℕ
@@ -182,12 +224,21 @@ postsIn file = rowsIn file * columnsIn file
 
 -- what an accepted read found
 pub record ForRead (file : List ℕ) (hs : List ℤ) : Type 0 where
-  pub version : getD file 0 0 ≡ 1
+  pub version : (eqb (versionIn file) 1 || eqb (versionIn file) 2) ≡ true
   pub sides : Sides (rowsIn file) (columnsIn file)
-  pub stated : statedCount file ≡ countFor (rowsIn file) (columnsIn file)
-  pub size : length file ≡ fileSize (rowsIn file) (columnsIn file)
+  pub spaced : Spaced (spacingsIn file)
+  pub stated : statedCount file ≡ countFor (versionIn file) (rowsIn file) (columnsIn file)
+  pub size : length file ≡ fileSize (versionIn file) (rowsIn file) (columnsIn file)
   pub room : length hs ≡ postsIn file
   pub tenths : firstNot isTenths (tenthsOf file (postsIn file)) ≡ postsIn file
+
+-- seven bytes stand before the heights at least, eleven at most
+pub header-bounds : (version : ℕ) → (7 ≤ headerFor version) × (headerFor version ≤ 11)
+header-bounds version = go (eqb version 1)
+  where
+    go : (b : Bool) → (7 ≤ 5 + cond b 2 6) × (5 + cond b 2 6 ≤ 11)
+    go true = omega arith
+    go false = omega arith
 
 module _ (file : List ℕ) (hs : List ℤ) where
   none : (isIn : ℤ → Bool) (zs : List ℤ) → ltb (firstNot isIn zs) (length zs) ≡ false → firstNot isIn zs ≡ length zs
@@ -199,12 +250,13 @@ module _ (file : List ℕ) (hs : List ℤ) where
       let row = passed _ tt e in
       let long : 7 ≤ length file = ltb-false _ _ (row 10) in
       let present : statedCount file ≡ length file - 5 = equal _ _ (or-left (not (eqb (statedCount file) (length file - 5))) _ (row 12)) in
-      let stated : statedCount file ≡ countFor (rowsIn file) (columnsIn file) = equal _ _ (or-right (not (eqb (statedCount file) (length file - 5))) _ (row 12)) in
+      let stated : statedCount file ≡ countFor (versionIn file) (rowsIn file) (columnsIn file) = equal _ _ (or-right (not (eqb (statedCount file) (length file - 5))) _ (row 12)) in
       record {
-        version = equal _ _ (row 11);
+        version = not-false _ (row 11);
         sides = test-sides _ _ (not-false _ (row 1));
+        spaced = row15-spaced (spacingsIn file) (row 15);
         stated = stated;
-        size = omega arith;
+        size = omega (arith, header-bounds (versionIn file));
         room = equal _ _ (row 3);
         tenths = none isTenths (tenthsOf file (postsIn file)) (row 4) ∙ length-tenthsOf file (postsIn file);
       }
@@ -213,9 +265,11 @@ module _ (file : List ℕ) (hs : List ℤ) where
   unfolding readVerdict
   valid-read r =
       let present : statedCount file ≡ length file - 5 = omega (arith, r .stated, r .size) in
-      row-passed _ _ (le-ltb (length file) 7 (omega (arith, r .size)))
-      ∙ row-passed _ _ (same (getD file 0 0) 1 (r .version))
+      row-passed _ _ (le-ltb (length file) 7 (omega (arith, r .size, header-bounds (versionIn file))))
+      ∙ row-passed _ _ (ap not (r .version))
+      ∙ row-passed _ _ (le-ltb (length file) (headerFor (versionIn file)) (omega (arith, r .size)))
       ∙ row-passed _ _ (ap not (sides-test (r .sides)))
+      ∙ row-passed _ _ (row15-passes (r .spaced))
       ∙ row-passed _ _ (rw (same (statedCount file) (length file - 5) present) (same _ _ (r .stated)))
       ∙ row-passed _ _ (same (length hs) (postsIn file) (r .room))
       ∙ row-passed _ _ (le-ltb _ (length (tenthsOf file (postsIn file))) (omega (arith, length-tenthsOf file (postsIn file), r .tenths)))

@@ -6,8 +6,9 @@ use borrow.Author.Tests.{ne-eqb}
 use lib.IntN.{ℤ}
 use lib.ListN.{length}
 use Rattle.surface.specs.Plot.{Plot}
-use Rattle.surface.specs.SurveyFile.{heightsIn, fileOf}
+use Rattle.surface.specs.SurveyFile.{spacingsIn, heightsIn, fileOf}
 use Rattle.surface.specs.Refusals.{readVerdict, writeVerdict}
+use Rattle.surface.specs.declared.Spacings.{Spacings}
 use Rattle.surface.specs.Calls.{readAnswer, readHeights, writeFile}
 use Rattle.surface.proofs.OfCalls.Accepted.{rowsIn, columnsIn, read-valid, valid-read}
 
@@ -17,7 +18,7 @@ module _ (file : List ℕ) (hs : List ℤ) where
   read-code = refl
 
   -- a refused call returns its number and place, and 0 for each other value
-  pub read-refused : (readVerdict file hs .code ≡ 0 → ⊥) → readAnswer file hs ≡ record { code = readVerdict file hs .code; place = readVerdict file hs .place; rows = 0; columns = 0 }
+  pub read-refused : (readVerdict file hs .code ≡ 0 → ⊥) → readAnswer file hs ≡ record { code = readVerdict file hs .code; place = readVerdict file hs .place; rows = 0; columns = 0; east = 0; south = 0 }
   unfolding readAnswer
   read-refused n = rw (ne-eqb (readVerdict file hs .code) 0 n)
 
@@ -27,7 +28,9 @@ module _ (file : List ℕ) (hs : List ℤ) where
   read-kept n = rw (ne-eqb (readVerdict file hs .code) 0 n)
 
   -- an accepted call returns 0 first
-  pub read-served : readVerdict file hs .code ≡ 0 → readAnswer file hs ≡ record { code = 0; place = 0; rows = rowsIn file; columns = columnsIn file }
+  pub read-served :
+      readVerdict file hs .code ≡ 0
+      → readAnswer file hs ≡ record { code = 0; place = 0; rows = rowsIn file; columns = columnsIn file; east = spacingsIn file .east; south = spacingsIn file .south }
   unfolding readAnswer
   read-served e = rw (valid-read file hs (read-valid file hs e))
 
@@ -35,11 +38,11 @@ module _ (file : List ℕ) (hs : List ℤ) where
   unfolding readHeights
   read-filled e = rw (valid-read file hs (read-valid file hs e), read-valid file hs e .room)
 
-module _ (pl : Plot) (file : List ℕ) where
-  pub write-kept : (writeVerdict pl file .code ≡ 0 → ⊥) → writeFile pl file ≡ file
+module _ (pl : Plot) (s : Spacings) (file : List ℕ) where
+  pub write-kept : (writeVerdict pl s file .code ≡ 0 → ⊥) → writeFile pl s file ≡ file
   unfolding writeFile
-  write-kept n = rw (ne-eqb (writeVerdict pl file .code) 0 n)
+  write-kept n = rw (ne-eqb (writeVerdict pl s file .code) 0 n)
 
-  pub write-filled : writeVerdict pl file .code ≡ 0 → writeFile pl file ≡ fileOf pl
+  pub write-filled : writeVerdict pl s file .code ≡ 0 → writeFile pl s file ≡ fileOf pl s
   unfolding writeFile
   write-filled e = rw e

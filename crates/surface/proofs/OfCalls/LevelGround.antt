@@ -8,18 +8,18 @@ use Rattle.surface.specs.Plot.{virtualPit, drivenBefore, below}
 use Rattle.surface.specs.Edges.{lowest, lowestOr, throughLowest, members, places, ring, ringOf, runs, runsFrom}
 use Rattle.surface.specs.Marks.{markFor, mark, markAt, marksOf}
 use Rattle.surface.specs.Codes.{memberCode, codesOf, ringBytes}
-use Rattle.surface.specs.Lines.{isEnd, next}
+use Rattle.surface.specs.Lines.{isEnd, next, squaredLength, squaredDrop, steeper, steepest}
 use Rattle.surface.specs.Refusals.{verdict, surveyVerdict, ringVerdict, nextVerdict}
 use Rattle.surface.specs.Calls.{surveyMarks, ringList, nextDownAnswer, nextUpAnswer}
-use Rattle.surface.specs.Bench.{marks, wide, square, oddChannel, evenChannel, bay, goes, LevelGround}
+use Rattle.surface.specs.Bench.{metre, marks, wide, square, oddChannel, evenChannel, bay, goes, LevelGround}
 
 -- by both rules
-each : (A : Bool → Type 0) → A false → A true → (h : Bool) → A h
+pub each : (A : Bool → Type 0) → A false → A true → (h : Bool) → A h
 each A f t true = t
 each A f t false = f
 
 pub level-ground : LevelGround
-unfolding listOf filter any all takeWhile lastOr count total firstNot virtualPit drivenBefore below lowest lowestOr throughLowest members places ring runs runsFrom markFor mark markAt marksOf ringOf memberCode codesOf ringBytes isEnd next verdict surveyVerdict ringVerdict nextVerdict surveyMarks ringList nextDownAnswer nextUpAnswer
+unfolding listOf filter any all takeWhile lastOr count total firstNot virtualPit drivenBefore below lowest lowestOr throughLowest members places ring runs runsFrom markFor mark markAt marksOf ringOf memberCode codesOf ringBytes isEnd next squaredLength squaredDrop steeper steepest verdict surveyVerdict ringVerdict nextVerdict surveyMarks ringList nextDownAnswer nextUpAnswer
 level-ground =
     record {
       flatRing = refl;
@@ -29,12 +29,12 @@ level-ground =
       squarePeak = each (λ h. getD (surveyMarks (square h) (marks 9)) 8 9 ≡ 1) refl refl;
       squareUp = refl;
       squareUpHighest = refl;
-      oddRuns = each (λ h. nextDownAnswer (oddChannel h) 5 ≡ goes 6) refl refl;
-      oddPit = each (λ h. nextDownAnswer (oddChannel h) 6 ≡ goes 6) refl refl;
-      evenRuns = each (λ h. nextDownAnswer (evenChannel h) 10 ≡ goes 9) refl refl;
-      evenPit = each (λ h. nextDownAnswer (evenChannel h) 9 ≡ goes 9) refl refl;
-      bayFirst = each (λ h. nextDownAnswer (bay h) 5 ≡ goes 6) refl refl;
-      bayMouth = each (λ h. nextDownAnswer (bay h) 6 ≡ goes 7) refl refl;
+      oddRuns = each (λ h. nextDownAnswer (oddChannel h) metre 5 ≡ goes 6) refl refl;
+      oddPit = each (λ h. nextDownAnswer (oddChannel h) metre 6 ≡ goes 6) refl refl;
+      evenRuns = each (λ h. nextDownAnswer (evenChannel h) metre 10 ≡ goes 9) refl refl;
+      evenPit = each (λ h. nextDownAnswer (evenChannel h) metre 9 ≡ goes 9) refl refl;
+      bayFirst = each (λ h. nextDownAnswer (bay h) metre 5 ≡ goes 6) refl refl;
+      bayMouth = each (λ h. nextDownAnswer (bay h) metre 6 ≡ goes 7) refl refl;
       bayBack = refl;
       bayBackHighest = refl;
     }

@@ -1,4 +1,4 @@
--- A file that is written reads back to the same heights, and a file that is read has exactly its size.
+-- A file that is written reads back to the same heights and spacings, and a file that is read has exactly its size.
 use Prim.Native.Nat.{ℕ, _+_, _*_, _<_}
 use native.Mathlib.Omega.{arith}
 use mathlib.Core.Path.{_≡_, refl, sym, _∙_, ap}
@@ -11,14 +11,16 @@ use borrow.Author.Tests.{le-ltb}
 use Rattle.surface.specs.Lists.{all, firstNot}
 use Rattle.surface.specs.Plot.{Plot, plot, posts, isHeight, Valid}
 use Rattle.surface.specs.Rounding.{Nearest}
-use Rattle.surface.specs.SurveyFile.{wordAt, statedCount, countFor, fileSize, signed, bytesOf, isTenths, tenthsOf, rounded, heightsIn, filedHeights, fileOf}
+use Rattle.surface.specs.Lines.{Spaced, spacings}
+use Rattle.surface.specs.SurveyFile.{wordAt, versionIn, headerFor, statedCount, countFor, fileSize, spacingsIn, signed, bytesOf, halfBytes, isTenths, tenthsOf, rounded, heightsIn, filedHeights, fileOf}
 use Rattle.surface.specs.Refusals.{readVerdict}
+use Rattle.surface.specs.declared.Spacings.{Spacings}
 use Rattle.surface.specs.Calls.{readAnswer, readHeights, writeAnswer, writeFile}
 use Rattle.surface.proofs.OfCalls.FileCalls.{read-code, read-served, read-filled, write-filled}
 use Rattle.surface.proofs.General.Rounding.{nearest-is}
 use Rattle.surface.proofs.General.ListOf.{getD-mapped}
 use Rattle.surface.proofs.General.FirstNot.{firstNot-map, ranged-all, all-firstNot, all-at}
-use Rattle.surface.proofs.OfCalls.SurveyFile.{length-tenthsOf, getD-tenthsOf, wordAt-skip, wordAt-bytesOf, wordAt-filed, length-filedHeights, signed-unsigned, mag-tenfold, isTenths-tenfold, rounded-tenfold, isHeight-rounded}
+use Rattle.surface.proofs.OfCalls.SurveyFile.{length-tenthsOf, getD-tenthsOf, wordAt-skip, wordAt-bytesOf, half-joined, wordAt-filed, length-filedHeights, signed-unsigned, mag-tenfold, isTenths-tenfold, rounded-tenfold, isHeight-rounded}
 use Rattle.surface.proofs.OfCalls.Accepted.{postsIn, ForRead, ForWrite, read-valid, valid-read, write-valid}
 
 map-rounded : (zs : List ℤ) → map rounded (map (λ z. z *ℤ pos 10) zs) ≡ zs
@@ -26,68 +28,90 @@ map-rounded [] = refl
 map-rounded (z ∷ zs) = rw (rounded-tenfold z, map-rounded zs)
 
 -- the file of an accepted write
-module _ (pl : Plot) (file : List ℕ) (w : ForWrite pl file) where
-  head : List ℕ
-  head = 1 ∷ bytesOf (countFor pl.rows pl.columns) ++ pl.rows ∷ pl.columns ∷ []
+module _ (pl : Plot) (s : Spacings) (file : List ℕ) (w : ForWrite pl s file) where
+  abbrev written : List ℕ
+  written = fileOf pl s
 
-  -- a written file is its seven first bytes and the heights
-  parts : fileOf pl ≡ head ++ filedHeights pl.heights
-  unfolding fileOf head bytesOf
+  head : List ℕ
+  head = 2 ∷ bytesOf (countFor 2 pl.rows pl.columns) ++ pl.rows ∷ pl.columns ∷ halfBytes (s .east) ++ halfBytes (s .south)
+
+  -- a written file is its eleven first bytes and the heights
+  parts : written ≡ head ++ filedHeights pl.heights
+  unfolding fileOf head bytesOf halfBytes
   parts = refl
 
-  length-head : length head ≡ 7
-  unfolding head bytesOf
+  length-head : length head ≡ 11
+  unfolding head bytesOf halfBytes
   length-head = refl
 
-  tenth : (i : ℕ) → i < length pl.heights → signed (wordAt (fileOf pl) (7 + 4 * i)) ≡ getD pl.heights i (pos 0) *ℤ pos 10
+  version : versionIn written ≡ 2
+  unfolding fileOf
+  version = refl
+
+  spacings-back : spacingsIn written ≡ s
+  unfolding spacingsIn fileOf bytesOf halfBytes
+  spacings-back = rw (half-joined (s .east) (omega (arith, w .spaced)), half-joined (s .south) (omega (arith, w .spaced)))
+
+  tenth : (i : ℕ) → i < length pl.heights → signed (wordAt written (headerFor (versionIn written) + 4 * i)) ≡ getD pl.heights i (pos 0) *ℤ pos 10
   tenth i h =
       let e : isHeight (getD pl.heights i (pos 0)) ≡ true = all-at isHeight pl.heights (pos 0) refl (w .valid .inRange) i in
       rw
-      (parts, wordAt-skip head (filedHeights pl.heights) (7 + 4 * i) (4 * i) (omega (arith, length-head)), wordAt-filed pl.heights (pos 0) i h e)
+      (version, parts, wordAt-skip head (filedHeights pl.heights) (11 + 4 * i) (4 * i) (omega (arith, length-head)), wordAt-filed pl.heights (pos 0) i h e)
       (signed-unsigned (getD pl.heights i (pos 0) *ℤ pos 10) (mag-tenfold (getD pl.heights i (pos 0)) e))
 
   -- the filed heights are ten times the heights
-  tenths : tenthsOf (fileOf pl) (length pl.heights) ≡ map (λ z. z *ℤ pos 10) pl.heights
+  tenths : tenthsOf written (length pl.heights) ≡ map (λ z. z *ℤ pos 10) pl.heights
   tenths =
       ext-getD
       (pos 0)
       _
       _
-      (length-tenthsOf (fileOf pl) (length pl.heights) ∙ sym (length-map pl.heights (λ z. z *ℤ pos 10)))
+      (length-tenthsOf written (length pl.heights) ∙ sym (length-map pl.heights (λ z. z *ℤ pos 10)))
       (λ i h.
-      let k : i < length pl.heights = rw (length-tenthsOf (fileOf pl) (length pl.heights)) at h in
-      getD-tenthsOf (fileOf pl) (length pl.heights) i k ∙ tenth i k ∙ sym (List·getD-map (λ z. z *ℤ pos 10) pl.heights i (pos 0)))
+      let k : i < length pl.heights = rw (length-tenthsOf written (length pl.heights)) at h in
+      getD-tenthsOf written (length pl.heights) i k ∙ tenth i k ∙ sym (List·getD-map (λ z. z *ℤ pos 10) pl.heights i (pos 0)))
 
-  stated : statedCount (fileOf pl) ≡ countFor pl.rows pl.columns
-  unfolding statedCount fileOf
+  stated : statedCount written ≡ countFor 2 pl.rows pl.columns
+  unfolding statedCount fileOf bytesOf halfBytes
   stated =
-      wordAt-skip (1 ∷ []) (bytesOf (countFor pl.rows pl.columns) ++ pl.rows ∷ pl.columns ∷ filedHeights pl.heights) 1 0 refl
-      ∙ wordAt-bytesOf (countFor pl.rows pl.columns) (pl.rows ∷ pl.columns ∷ filedHeights pl.heights) (omega (arith, w .valid .sides))
+      let rest = pl.rows ∷ pl.columns ∷ halfBytes (s .east) ++ halfBytes (s .south) ++ filedHeights pl.heights in
+      wordAt-skip (2 ∷ []) (bytesOf (countFor 2 pl.rows pl.columns) ++ rest) 1 0 refl
+      ∙ wordAt-bytesOf (countFor 2 pl.rows pl.columns) rest (omega (arith, w .valid .sides))
 
-  in-range : firstNot isTenths (tenthsOf (fileOf pl) (posts pl)) ≡ posts pl
+  in-range : firstNot isTenths (tenthsOf written (posts pl)) ≡ posts pl
   in-range = rw (← w .valid .size, tenths) (firstNot-map isHeight isTenths (λ z. z *ℤ pos 10) isTenths-tenfold pl.heights (all-firstNot isHeight pl.heights (w .valid .inRange)) ∙ length-map pl.heights (λ z. z *ℤ pos 10))
 
-  read-back : heightsIn (fileOf pl) (posts pl) ≡ pl.heights
+  read-back : heightsIn written (posts pl) ≡ pl.heights
   unfolding heightsIn
   read-back = rw (← w .valid .size, tenths) (map-rounded pl.heights)
 
-  pub written-readable : (out : List ℤ) → length out ≡ posts pl → ForRead (fileOf pl) out
-  unfolding fileOf bytesOf
+  pub written-readable : (out : List ℤ) → length out ≡ posts pl → ForRead written out
+  unfolding fileOf bytesOf halfBytes
   written-readable out h =
       record {
         version = refl;
         sides = w .valid .sides;
+        spaced = rw spacings-back (w .spaced);
         stated = stated;
         size = omega (arith, length-filedHeights pl.heights, w .valid .size);
         room = h;
         tenths = in-range;
       }
 
--- "The count is 2 + 4 times rows times columns": every file that reading accepts is exactly as long as its rows and columns say.
-pub read-size : (file : List ℕ) (out : List ℤ) → readAnswer file out .code ≡ 0 → length file ≡ fileSize (readAnswer file out .rows) (readAnswer file out .columns)
+-- Every file that reading accepts is exactly as long as its version, rows and columns say: 7, of version 2 11, + 4 times rows times columns.
+pub read-size :
+    (file : List ℕ) (out : List ℤ)
+    → readAnswer file out .code ≡ 0
+    → length file ≡ fileSize (versionIn file) (readAnswer file out .rows) (readAnswer file out .columns)
 read-size file out e =
     let v = sym (read-code file out) ∙ e in
     rw (read-served file out v) (read-valid file out v .size)
+
+-- The spacings of an accepted read are in range.
+pub read-spaced : (file : List ℕ) (out : List ℤ) → readAnswer file out .code ≡ 0 → Spaced (spacings (readAnswer file out .east) (readAnswer file out .south))
+read-spaced file out e =
+    let v = sym (read-code file out) ∙ e in
+    rw (read-served file out v) (read-valid file out v .spaced)
 
 same-verdict : (file : List ℕ) (out old : List ℤ) → length out ≡ length old → readVerdict file out ≡ readVerdict file old
 unfolding readVerdict
@@ -134,24 +158,24 @@ pub read-nearest :
     (file : List ℕ) (out : List ℤ)
     → readAnswer file out .code ≡ 0
     → (i : ℕ) → i < length out
-    → Nearest (signed (wordAt file (7 + 4 * i))) 10 (getD (readHeights file out) i (pos 0))
+    → Nearest (signed (wordAt file (headerFor (versionIn file) + 4 * i))) 10 (getD (readHeights file out) i (pos 0))
 unfolding heightsIn rounded
 read-nearest file out e i h =
     let v = sym (read-code file out) ∙ e in
     let n = length-tenthsOf file (length out) in
     rw (read-filled file out v, getD-mapped rounded (tenthsOf file (length out)) i (pos 0) (pos 0) (omega (arith, n)), getD-tenthsOf file (length out) i h)
-    (nearest-is (signed (wordAt file (7 + 4 * i))) 10 (omega arith) _ .1 refl)
+    (nearest-is (signed (wordAt file (headerFor (versionIn file) + 4 * i))) 10 (omega arith) _ .1 refl)
 
--- "A file we write reads back to the same millimetre heights": into any list of as many heights, with the same rows and columns.
+-- "A file we write reads back to the same millimetre heights": into any list of as many heights, with the same rows, columns and spacings.
 pub round-trip :
-    (pl : Plot) (file : List ℕ) (out : List ℤ)
-    → writeAnswer pl file .code ≡ 0
+    (pl : Plot) (s : Spacings) (file : List ℕ) (out : List ℤ)
+    → writeAnswer pl s file .code ≡ 0
     → length out ≡ posts pl
-    → (readAnswer (writeFile pl file) out ≡ record { code = 0; place = 0; rows = pl.rows; columns = pl.columns })
-    × (readHeights (writeFile pl file) out ≡ pl.heights)
-unfolding writeAnswer fileOf bytesOf
-round-trip pl file out e h =
-    let w = write-valid pl file e in
-    let r = valid-read (fileOf pl) out (written-readable pl file w out h) in
-    rw (write-filled pl file e, read-served (fileOf pl) out (ap (λ v. v .code) r), read-filled (fileOf pl) out (ap (λ v. v .code) r), h)
-    (refl, read-back pl file w)
+    → (readAnswer (writeFile pl s file) out ≡ record { code = 0; place = 0; rows = pl.rows; columns = pl.columns; east = s .east; south = s .south })
+    × (readHeights (writeFile pl s file) out ≡ pl.heights)
+unfolding writeAnswer fileOf bytesOf halfBytes
+round-trip pl s file out e h =
+    let w = write-valid pl s file e in
+    let r = valid-read (fileOf pl s) out (written-readable pl s file w out h) in
+    rw (write-filled pl s file e, read-served (fileOf pl s) out (ap (λ v. v .code) r), read-filled (fileOf pl s) out (ap (λ v. v .code) r), spacings-back pl s file w, h)
+    (refl, read-back pl s file w)

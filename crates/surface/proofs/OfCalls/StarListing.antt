@@ -5,14 +5,14 @@ use Rattle.surface.specs.Lists.{listOf, filter, any, all, takeWhile, las
 use Rattle.surface.specs.Plot.{virtualPit, drivenBefore, below}
 use Rattle.surface.specs.Edges.{lowest, lowestOr, throughLowest, members, places, ring, ringOf, runs, runsFrom}
 use Rattle.surface.specs.Marks.{markFor, mark, markAt, marksOf, peaks, pits, saddles}
-use Rattle.surface.specs.Lines.{isEnd, next, walk, line}
+use Rattle.surface.specs.Lines.{isEnd, next, walk, line, squaredLength, squaredDrop, steeper, steepest}
 use Rattle.surface.specs.Rounding.{roundTiesToEven}
-use Rattle.surface.specs.SurveyFile.{wordAt, signed, unsigned, bytesOf, statedCount, tenthsOf, rounded, heightsIn, filedHeights, fileOf}
+use Rattle.surface.specs.SurveyFile.{wordAt, signed, unsigned, bytesOf, halfBytes, statedCount, spacingsIn, tenthsOf, rounded, heightsIn, filedHeights, fileOf}
 use Rattle.surface.specs.Settings.{entriesIn, entriesOf, extent, isBadSheet, areEntries, hasBadEntry, valueOf, ruleIn, nameIn}
 use Rattle.surface.specs.Refusals.{verdict, sheetVerdict, readVerdict}
 use Rattle.surface.specs.Calls.{sheetSays, readAnswer, readHeights}
 use Rattle.surface.specs.Lister.{digits, decimal, fields, textLine, endName, headLine, lineText, saddleLines, postLines, plotText, fileListing, listing, printed, StarListing}
 
 pub star-listing : StarListing
-unfolding listOf filter any all takeWhile lastOr count total firstNot virtualPit drivenBefore below lowest lowestOr throughLowest members places ring runs runsFrom markFor mark markAt marksOf ringOf peaks pits saddles isEnd next walk line wordAt signed unsigned bytesOf statedCount tenthsOf roundTiesToEven rounded heightsIn filedHeights fileOf entriesIn entriesOf extent isBadSheet areEntries hasBadEntry valueOf ruleIn nameIn verdict sheetVerdict sheetSays readVerdict readAnswer readHeights flatten digits decimal fields textLine endName headLine lineText saddleLines postLines plotText fileListing listing printed
+unfolding listOf filter any all takeWhile lastOr count total firstNot virtualPit drivenBefore below lowest lowestOr throughLowest members places ring runs runsFrom markFor mark markAt marksOf ringOf peaks pits saddles isEnd next walk line squaredLength squaredDrop steeper steepest wordAt signed unsigned bytesOf halfBytes statedCount spacingsIn tenthsOf roundTiesToEven rounded heightsIn filedHeights fileOf entriesIn entriesOf extent isBadSheet areEntries hasBadEntry valueOf ruleIn nameIn verdict sheetVerdict sheetSays readVerdict readAnswer readHeights flatten digits decimal fields textLine endName headLine lineText saddleLines postLines plotText fileListing listing printed
 star-listing = refl

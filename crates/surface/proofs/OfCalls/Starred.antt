@@ -4,15 +4,15 @@ use Rattle.surface.specs.Lists.{listOf, filter, any, all, takeWhile, las
 use Rattle.surface.specs.Plot.{virtualPit, drivenBefore, below}
 use Rattle.surface.specs.Edges.{lowest, lowestOr, throughLowest, members, places, ring, ringOf, runs, runsFrom}
 use Rattle.surface.specs.Marks.{markFor, mark, markAt, marksOf, peaks, pits, saddles}
-use Rattle.surface.specs.Lines.{isEnd, next, walk, line}
+use Rattle.surface.specs.Lines.{isEnd, next, walk, line, squaredLength, squaredDrop, steeper, steepest}
 use Rattle.surface.specs.Rounding.{roundTiesToEven}
-use Rattle.surface.specs.SurveyFile.{wordAt, signed, statedCount, tenthsOf, rounded, heightsIn}
+use Rattle.surface.specs.SurveyFile.{wordAt, signed, statedCount, spacingsIn, tenthsOf, rounded, heightsIn}
 use Rattle.surface.specs.Refusals.{verdict, surveyVerdict, lineVerdict, readVerdict}
 use Rattle.surface.specs.Calls.{surveyAnswer, surveyMarks, thalwegAnswer, thalwegList, ridgeAnswer, ridgeList, readAnswer, readHeights}
 use Rattle.surface.specs.Bench.{Starred}
 
 pub starred : Starred
-unfolding listOf filter any all takeWhile lastOr count total firstNot virtualPit drivenBefore below lowest lowestOr throughLowest members places ring runs runsFrom markFor mark markAt marksOf ringOf peaks pits saddles isEnd next walk line wordAt signed statedCount tenthsOf roundTiesToEven rounded heightsIn verdict surveyVerdict lineVerdict readVerdict surveyAnswer surveyMarks thalwegAnswer thalwegList ridgeAnswer ridgeList readAnswer readHeights
+unfolding listOf filter any all takeWhile lastOr count total firstNot virtualPit drivenBefore below lowest lowestOr throughLowest members places ring runs runsFrom markFor mark markAt marksOf ringOf peaks pits saddles isEnd next walk line squaredLength squaredDrop steeper steepest wordAt signed statedCount spacingsIn tenthsOf roundTiesToEven rounded heightsIn verdict surveyVerdict lineVerdict readVerdict surveyAnswer surveyMarks thalwegAnswer thalwegList ridgeAnswer ridgeList readAnswer readHeights
 starred =
     record {
       flatMarks = refl;

@@ -15,7 +15,7 @@ use lib.Seq.{getD-append-add, take-suc}
 use Rattle.surface.specs.Lists.{listOf}
 use Rattle.surface.specs.Plot.{isHeight}
 use Rattle.surface.specs.Rounding.{roundTiesToEven}
-use Rattle.surface.specs.SurveyFile.{wordAt, signed, unsigned, bytesOf, isTenths, tenthsOf, rounded, filedHeights, heightsIn}
+use Rattle.surface.specs.SurveyFile.{wordAt, signed, unsigned, bytesOf, versionIn, headerFor, isTenths, tenthsOf, rounded, filedHeights, heightsIn}
 use Rattle.surface.proofs.General.Bools.{and-left}
 use Rattle.surface.proofs.General.Rounding.{round-times}
 use Rattle.surface.proofs.General.ListOf.{length-listOf, getD-listOf, map-listOf}
@@ -54,6 +54,10 @@ wordAt-bytesOf n q h =
       joined (n / 256) (n / 65536) (div-div-eq-div-mul n 256 256),
       joined n (n / 256) refl,
     )
+
+-- and the two bytes of one that has no more
+pub half-joined : (n : ℕ) → n < 65536 → n / 256 % 256 * 256 + n % 256 ≡ n
+half-joined n h = omega arith
 
 -- ---- signed words
 
@@ -107,11 +111,11 @@ module _ (file : List ℕ) (n : ℕ) where
   unfolding tenthsOf
   length-tenthsOf = length-listOf _ n
 
-  pub getD-tenthsOf : (i : ℕ) → i < n → getD (tenthsOf file n) i (pos 0) ≡ signed (wordAt file (7 + 4 * i))
+  pub getD-tenthsOf : (i : ℕ) → i < n → getD (tenthsOf file n) i (pos 0) ≡ signed (wordAt file (headerFor (versionIn file) + 4 * i))
   unfolding tenthsOf
   getD-tenthsOf i h = getD-listOf _ n i (pos 0) h
 
-  pub heightsIn-is : heightsIn file n ≡ listOf (λ i. rounded (signed (wordAt file (7 + 4 * i)))) n
+  pub heightsIn-is : heightsIn file n ≡ listOf (λ i. rounded (signed (wordAt file (headerFor (versionIn file) + 4 * i)))) n
   unfolding heightsIn tenthsOf
   heightsIn-is = map-listOf rounded _ n
 

@@ -11,10 +11,13 @@ use Rattle.surface.specs.Edges.{top, left, right}
 use Rattle.surface.proofs.General.Bools.{either, same-test, not-not}
 use Rattle.surface.proofs.AnyOrder.Grid.{post-is, row-ge, row-south, row-east, row-west, row-north, not-left, south-right, west-right, north-left}
 use Rattle.surface.proofs.AnyOrder.Order.{StrictTotal, directed-strict}
-use Rattle.surface.proofs.AnyOrder.Lex.{ltb-linear, Ties, lex-strict}
+use Rattle.surface.proofs.AnyOrder.Lex.{ltb-weak, Level, Ties, lex-strict}
+
+ltb-irrefl : (a : ℕ) → ltb a a ≡ false
+ltb-irrefl a = le-ltb a a (omega arith)
 
 ltb-strict : StrictTotal ltb
-ltb-strict = record { irrefl = ltb-linear .irrefl; other = oth; trans = ltb-linear .trans }
+ltb-strict = record { irrefl = ltb-irrefl; other = oth; trans = λ a b c h k. lt-ltb a c (omega (arith, ltb-true a b h, ltb-true b c k)) }
   where
     oth : (p q : ℕ) → (p ≡ q → ⊥) → ltb q p ≡ not (ltb p q)
     oth p q h = either (ltb p q) (λ k. rw k (le-ltb q p (omega (arith, ltb-true p q k)))) (λ k. rw k (lt-ltb q p (omega (arith, ltb-false p q k, h))))
@@ -24,21 +27,24 @@ module _ (columns : ℕ) where
   turned : ℕ → ℕ → Bool
   turned p q = directed (isOdd (row columns p)) ltb (column columns p) (column columns q)
 
-  turned-ties : Ties (row columns) turned
+  turned-ties : Ties ltb (row columns) turned
   unfolding turned
   turned-ties =
       record {
         irrefl = λ p. o (row columns p) .irrefl _;
-        other = λ p q e h. rw (sym e) (o (row columns p) .other _ _ (λ f. h (sym (post-is columns p) ∙ rw (e, f) (post-is columns q))));
-        trans = λ p q r e f h k. o (row columns p) .trans _ _ _ h (rw (sym e) at k);
+        other = λ p q l h. let e = one-row p q l in rw (sym e) (o (row columns p) .other _ _ (λ f. h (sym (post-is columns p) ∙ rw (e, f) (post-is columns q))));
+        trans = λ p q r l _ h k. o (row columns p) .trans _ _ _ h (rw (sym (one-row p q l)) at k);
       }
     where
       o : (r : ℕ) → StrictTotal (directed (isOdd r) ltb)
       o r = directed-strict (isOdd r) ltb-strict
 
+      one-row : (p q : ℕ) → Level ltb (row columns p) (row columns q) → row columns p ≡ row columns q
+      one-row p q l = omega (arith, ltb-false (row columns p) (row columns q) (l .0), ltb-false (row columns q) (row columns p) (l .1))
+
   pub driven-strict : StrictTotal (drivenBefore columns)
   unfolding drivenBefore turned
-  driven-strict = lex-strict ltb (row columns) turned ltb-linear turned-ties
+  driven-strict = lex-strict ltb (row columns) turned ltb-weak turned-ties
 
   -- between rows the lower row comes first
   rows-driven : (p q : ℕ) → row columns p < row columns q → drivenBefore columns p q ≡ true
@@ -60,7 +66,7 @@ module _ (columns : ℕ) where
   -- within a row numbers tell
   pub row-driven : (p q : ℕ) → row columns p ≡ row columns q → drivenBefore columns p q ≡ directed (isOdd (row columns p)) ltb p q
   unfolding drivenBefore
-  row-driven p q e = rw (e, ltb-linear .irrefl (row columns q)) (go (isOdd (row columns q)))
+  row-driven p q e = rw (e, ltb-irrefl (row columns q)) (go (isOdd (row columns q)))
     where
       by-column : (p q : ℕ) → row columns p ≡ row columns q → ltb (column columns p) (column columns q) ≡ ltb p q
       by-column p q e =

@@ -8,8 +8,9 @@ use lib.IntN.{ℤ, pos, negsuc}
 use lib.Signed.{ltZ}
 use borrow.Author.Tests.{ltb-true, ltb-false, lt-ltb, le-ltb, eqb-true, eq-eqb, ne-eqb}
 use Rattle.surface.specs.Plot.{Plot, height, virtualPit, drivenBefore, below, tied}
+use Rattle.surface.proofs.General.Bools.{either}
 use Rattle.surface.proofs.AnyOrder.Order.{StrictTotal}
-use Rattle.surface.proofs.AnyOrder.Lex.{Linear, strict-ties, lex, lex-strict}
+use Rattle.surface.proofs.AnyOrder.Lex.{Weak, strict-ties, lex, lex-strict}
 use Rattle.surface.proofs.OfPlots.Driven.{driven-strict}
 
 -- whole numbers
@@ -40,8 +41,8 @@ ltZ-asym a b h = go (ltZ b a) refl
     go true k = sym (ltZ-trans a b a h k) ∙ ltZ-irrefl a
     go false k = refl
 
-ltZ-linear : Linear ltZ
-ltZ-linear = record { irrefl = ltZ-irrefl; trans = ltZ-trans; level = ltZ-level }
+ltZ-weak : Weak ltZ
+ltZ-weak = record { asym = ltZ-asym; via = λ a b c h k. either (ltZ b a) (λ e. ltZ-trans b a c e h) (λ e. rw (ltZ-level a b k e) at h) }
 
 -- posts by height, then as driven
 module _ (pl : Plot) where
@@ -50,7 +51,7 @@ module _ (pl : Plot) where
 
   byHeight-strict : StrictTotal byHeight
   unfolding byHeight
-  byHeight-strict = lex-strict ltZ (height pl) (drivenBefore pl.columns) ltZ-linear (strict-ties (height pl) (driven-strict pl.columns))
+  byHeight-strict = lex-strict ltZ (height pl) (drivenBefore pl.columns) ltZ-weak (strict-ties ltZ (height pl) (driven-strict pl.columns))
 
   -- between posts the order is by height, then as driven
   pub below-lex : (p q : ℕ) → (p ≡ virtualPit → ⊥) → (q ≡ virtualPit → ⊥)
