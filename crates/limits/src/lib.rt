@@ -3,15 +3,20 @@ use surface::Answer;
 use surface::HIGHEST;
 use surface::LOWEST;
 use surface::MAX_SIDE;
+use surface::MAX_SPACING;
+use surface::MIN_SPACING;
 use surface::Sheet;
+use surface::Spacings;
 ghost use mathlib.Core.Path.{_≡_};
-ghost use mathlib.Core.Bool.{_&&_};
+ghost use mathlib.Core.Bool.{_&&_, not};
 ghost use mathlib.Core.List.{[], _∷_};
 ghost use Prim.Native.Nat.{_≤_};
+ghost use lib.Dec.{ltb, eqb};
 ghost use lib.ListN.{length};
 ghost use Rattle.surface.specs.Lists.{all, firstNot};
 ghost use Rattle.surface.specs.Plot.{plot, maxPosts, isSide, isHeight};
-ghost use Rattle.surface.specs.Refusals.{verdict, row1, row2, row4, leading, nextVerdict};
+ghost use Rattle.surface.specs.Lines.{isSpacing};
+ghost use Rattle.surface.specs.Refusals.{verdict, rowOf, row1, row2, row4, row15, sheetRows, leading, leadingSpaced, nextVerdict};
 ghost use Rattle.surface.specs.Calls.{plotSaid};
 
 // Whether a plot may have these sides.
@@ -19,6 +24,15 @@ pub fn is_plot(rows: u32, columns: u32) -> bool
     ensures { λ r. ⌜ r ≡ (isSide rows && isSide columns) ⌝ }
 {
     ((2 <= rows) & (rows as usize <= MAX_SIDE)) & ((2 <= columns) & (columns as usize <= MAX_SIDE))
+}
+
+// Whether both spacings are in range.
+pub fn is_spaced(spacings: Spacings) -> bool
+    ensures { λ r. ⌜ r ≡ (isSpacing (spacings .east) && isSpacing (spacings .south)) ⌝ }
+{
+    let east = (MIN_SPACING <= spacings.east) & (spacings.east <= MAX_SPACING);
+    let south = (MIN_SPACING <= spacings.south) & (spacings.south <= MAX_SPACING);
+    east & south
 }
 
 // Whether a height is in range.
@@ -56,7 +70,7 @@ fn all_in(heights: &[i32]) -> bool
 }
 
 // Rows 1 and 2 of the table.
-pub fn plot_verdict(rows: u32, columns: u32, heights: &[i32]) -> Answer
+fn plot_verdict(rows: u32, columns: u32, heights: &[i32]) -> Answer
     ensures { λ r. ⌜ r ≡ verdict (row1 rows columns ∷ row2 (plot rows columns (now (heights .entry))) ∷ []) ⌝ }
 {
     if !is_plot(rows, columns) {
@@ -68,9 +82,20 @@ pub fn plot_verdict(rows: u32, columns: u32, heights: &[i32]) -> Answer
     Answer { code: 0, place: 0 }
 }
 
-// Rows 13, 14, 1 and 2, which lead every call with a settings sheet.
-pub fn lead_verdict(said: Sheet, rows: u32, columns: u32, heights: &[i32]) -> Answer
-    ensures { λ r. ⌜ r ≡ verdict (leading (plotSaid said rows columns (now (heights .entry)))) ⌝ }
+// Rows 1, 15 and 2: spacings out of range come before heights of another number, not before sides out of range.
+pub fn spaced_plot_verdict(rows: u32, columns: u32, spacings: Spacings, heights: &[i32]) -> Answer
+    ensures { λ r. ⌜ r ≡ verdict (row1 rows columns ∷ row15 spacings ∷ row2 (plot rows columns (now (heights .entry))) ∷ []) ⌝ }
+{
+    let plain = plot_verdict(rows, columns, heights);
+    if (plain.code != 1) & !is_spaced(spacings) {
+        return Answer { code: 15, place: 0 };
+    }
+    plain
+}
+
+// Rows 13 and 14, of a settings sheet.
+fn sheet_verdict(said: Sheet) -> Answer
+    ensures { λ r. ⌜ r ≡ verdict (sheetRows (eqb (said .code) 13) (eqb (said .code) 14)) ⌝ }
 {
     if said.code == 13 {
         return Answer { code: 13, place: 0 };
@@ -78,7 +103,35 @@ pub fn lead_verdict(said: Sheet, rows: u32, columns: u32, heights: &[i32]) -> An
     if said.code == 14 {
         return Answer { code: 14, place: 0 };
     }
+    Answer { code: 0, place: 0 }
+}
+
+// Rows 13, 14, 1 and 2, which lead every call with a settings sheet and no spacings.
+pub fn lead_verdict(said: Sheet, rows: u32, columns: u32, heights: &[i32]) -> Answer
+    ensures { λ r. ⌜ r ≡ verdict (leading (plotSaid said rows columns (now (heights .entry)))) ⌝ }
+{
+    let sheet = sheet_verdict(said);
+    if sheet.code != 0 {
+        return sheet;
+    }
     plot_verdict(rows, columns, heights)
+}
+
+// Rows 13, 14, 1, 15 and 2, which lead every call with both.
+pub fn spaced_verdict(
+    said: Sheet,
+    rows: u32,
+    columns: u32,
+    spacings: Spacings,
+    heights: &[i32],
+) -> Answer
+    ensures { λ r. ⌜ r ≡ verdict (leadingSpaced (plotSaid said rows columns (now (heights .entry))) spacings) ⌝ }
+{
+    let sheet = sheet_verdict(said);
+    if sheet.code != 0 {
+        return sheet;
+    }
+    spaced_plot_verdict(rows, columns, spacings, heights)
 }
 
 // Row 4.
@@ -95,20 +148,35 @@ pub fn heights_verdict(heights: &[i32]) -> Answer
     }
 }
 
-// Rows 13, 14, 1, 2, 4 and 5, which the calls that start from a post look at.
-pub fn post_verdict(said: Sheet, rows: u32, columns: u32, heights: &[i32], post: u32) -> Answer
-    ensures { λ r. ⌜ r ≡ nextVerdict (plotSaid said rows columns (now (heights .entry))) post ⌝ }
+// Rows 4 and 5, where there is a height for each post.
+pub fn range_verdict(heights: &[i32], post: u32) -> Answer
+    requires { ⌜ length (now heights) ≤ maxPosts ⌝ }
+    ensures { λ r. ⌜ r ≡ verdict (row4 isHeight (now (heights .entry)) ∷ rowOf 5 (not (ltb post (length (now (heights .entry))))) ∷ []) ⌝ }
 {
-    let lead = lead_verdict(said, rows, columns, heights);
-    if lead.code != 0 {
-        return lead;
-    }
     let range = heights_verdict(heights);
     if range.code != 0 {
         return range;
     }
-    if rows * columns <= post {
+    if heights.len() <= post as usize {
         return Answer { code: 5, place: 0 };
     }
     Answer { code: 0, place: 0 }
+}
+
+// Rows 13, 14, 1, 15, 2, 4 and 5, which the calls with spacings that start from a post look at.
+pub fn post_verdict(
+    said: Sheet,
+    rows: u32,
+    columns: u32,
+    spacings: Spacings,
+    heights: &[i32],
+    post: u32,
+) -> Answer
+    ensures { λ r. ⌜ r ≡ nextVerdict (plotSaid said rows columns (now (heights .entry))) spacings post ⌝ }
+{
+    let lead = spaced_verdict(said, rows, columns, spacings, heights);
+    if lead.code != 0 {
+        return lead;
+    }
+    range_verdict(heights, post)
 }

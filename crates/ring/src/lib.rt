@@ -3,7 +3,7 @@ mod codes;
 
 use codes::put_codes;
 use limits::lead_verdict;
-use limits::post_verdict;
+use limits::range_verdict;
 use post::mark::mark_at;
 use settings::read_sheet;
 use surface::Answer;
@@ -37,7 +37,7 @@ fn ring_verdict(
     if ring.len() != RING_LENGTH {
         return Answer { code: 3, place: 0 };
     }
-    post_verdict(said, rows, columns, heights, post)
+    range_verdict(heights, post)
 }
 
 // The lower runs of a post that has this mark.

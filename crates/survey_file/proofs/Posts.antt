@@ -10,7 +10,7 @@ use Rattle.surface.specs.Plot.{isSide, maxPosts}
 use Rattle.surface.proofs.General.Bools.{either}
 use Rattle.surface.proofs.AnyOrder.Grid.{test-sides}
 use Rattle.surface.proofs.OfCalls.Accepted.{rowsIn, columnsIn}
-use Rattle.survey_file.specs.Layout.{headerSize, plotPosts}
+use Rattle.survey_file.specs.Layout.{leastSize, plotPosts}
 
 module _ (file : List ℕ) where
   module _ (rows columns : ℕ) (r : rows ≡ rowsIn file) (c : columns ≡ columnsIn file) where
@@ -22,7 +22,7 @@ module _ (file : List ℕ) where
     unfolding plotPosts
     no-posts h = rw (← r, ← c, h)
 
-  pub short-posts : length file < headerSize → 0 ≡ plotPosts file
+  pub short-posts : length file < leastSize → 0 ≡ plotPosts file
   short-posts h = no-posts (rowsIn file) 0 refl (sym (List·getD-eq-default file 0 {n = 6} (omega arith))) (and-false (isSide (rowsIn file)))
 
   -- and the other way round

@@ -8,10 +8,11 @@ use lib.IntN.{ℤ, pos, _*ℤ_}
 use lib.ListN.{length, getD, take, set}
 use lib.Seq.{sets, sets-eq, drop-length, length-take-le}
 use Rattle.surface.specs.Plot.{Plot}
-use Rattle.surface.specs.SurveyFile.{unsigned, bytesOf, filedHeights, fileOf}
+use Rattle.surface.specs.SurveyFile.{unsigned, bytesOf, halfBytes, headerFor, filedHeights, fileOf}
 use Rattle.surface.proofs.OfCalls.SurveyFile.{length-filedHeights, filedHeights-take}
 use Rattle.surface.proofs.OfCalls.Accepted.{ForWrite}
-use Rattle.survey_file.specs.Layout.{headerSize, header, heightAt}
+use Rattle.surface.specs.declared.Spacings.{Spacings}
+use Rattle.survey_file.specs.Layout.{written, header, heightAt}
 
 module _ {A : Type 0} where
   sets-append : (l vs ws : List A) (i : ℕ) → sets (sets l i vs) (i + length vs) ws ≡ sets l i (vs ++ ws)
@@ -31,21 +32,21 @@ pub filed-more :
     (hs : List ℤ) (l : List ℕ) (i n : ℕ)
     → i < length hs
     → n ≡ unsigned (getD hs i (pos 0) *ℤ pos 10)
-    → sets (sets l headerSize (filedHeights (take i hs))) (heightAt i) (bytesOf n) ≡ sets l headerSize (filedHeights (take (i + 1) hs))
+    → sets (sets l (headerFor written) (filedHeights (take i hs))) (heightAt written i) (bytesOf n) ≡ sets l (headerFor written) (filedHeights (take (i + 1) hs))
 filed-more hs l i n h e =
     let stored = filedHeights (take i hs) in
-    let k : heightAt i ≡ headerSize + length stored = omega (arith, length-filedHeights (take i hs), length-take-le i hs (omega arith)) in
-    rw (k, e, filedHeights-take hs i h) (sets-append l stored _ headerSize)
+    let k : heightAt written i ≡ (headerFor written) + length stored = omega (arith, length-filedHeights (take i hs), length-take-le i hs (omega arith)) in
+    rw (k, e, filedHeights-take hs i h) (sets-append l stored _ (headerFor written))
 
 -- the header and the heights make the file
 pub file-stored :
-    (pl : Plot) (l headed next : List ℕ)
-    → ForWrite pl l
-    → headed ≡ sets l 0 (header pl.rows pl.columns)
-    → next ≡ sets headed headerSize (filedHeights pl.heights)
-    → next ≡ fileOf pl
-unfolding header fileOf bytesOf
-file-stored pl l headed next w h e =
+    (pl : Plot) (s : Spacings) (l headed next : List ℕ)
+    → ForWrite pl s l
+    → headed ≡ sets l 0 (header pl.rows pl.columns s)
+    → next ≡ sets headed (headerFor written) (filedHeights pl.heights)
+    → next ≡ fileOf pl s
+unfolding header fileOf bytesOf halfBytes
+file-stored pl s l headed next w h e =
     rw (e, h)
-    (sets-append l (header pl.rows pl.columns) (filedHeights pl.heights) 0
-    ∙ sets-all l (fileOf pl) (omega (arith, w .room, w .valid .size, length-filedHeights pl.heights)))
+    (sets-append l (header pl.rows pl.columns s) (filedHeights pl.heights) 0
+    ∙ sets-all l (fileOf pl s) (omega (arith, w .room, w .valid .size, length-filedHeights pl.heights)))

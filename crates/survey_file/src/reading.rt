@@ -1,6 +1,6 @@
-// Reading a survey file: whether it is turned away, and what it holds.
-use crate::HEADER;
-use crate::VERSION;
+// Reading a survey file: whether it is turned away, and the heights that it holds.
+use crate::header::header_size;
+use crate::header::header_verdict;
 use crate::posts_in;
 use crate::tenths::first_out;
 use crate::tenths::round;
@@ -10,26 +10,22 @@ use words::word_at;
 ghost use mathlib.Core.Path.{_≡_};
 ghost use Prim.Native.Nat.{_≤_};
 ghost use lib.ListN.{length};
-ghost use Rattle.surface.specs.SurveyFile.{heightsIn};
+ghost use Rattle.surface.specs.SurveyFile.{versionIn, heightsIn};
 ghost use Rattle.surface.specs.Refusals.{readVerdict};
-ghost use Rattle.survey_file.specs.Layout.{heightAt};
+ghost use Rattle.survey_file.specs.Layout.{leastSize, heightAt};
 
-// What reading returns first: rows 10, 11, 1, 12, 3 and 4 of the table, in that order. Row 1 holds exactly where the file's plot can have no posts.
+// What reading returns first: the rows of the table about what stands before the heights, then rows 12, 3 and 4.
 pub(crate) fn read_verdict(file: &[u8], heights: &[i32]) -> Answer
     ensures { λ r. ⌜ r ≡ readVerdict (now (file .entry)) (now (heights .entry)) ⌝ }
 {
-    if file.len() < HEADER {
-        return Answer { code: 10, place: 0 };
-    }
-    if file[0] != VERSION {
-        return Answer { code: 11, place: 0 };
+    let header = header_verdict(file);
+    if header.code != 0 {
+        return header;
     }
     let posts = posts_in(file);
-    if posts == 0 {
-        return Answer { code: 1, place: 0 };
-    }
+    let counted = header_size(file) - 5 + 4 * posts;
     let stated = word_at(file, 1) as usize;
-    if (stated != file.len() - 5) | (stated != 2 + 4 * posts) {
+    if (stated != file.len() - 5) | (stated != counted) {
         return Answer { code: 12, place: 0 };
     }
     if heights.len() != posts {
@@ -47,12 +43,14 @@ pub(crate) fn read_verdict(file: &[u8], heights: &[i32]) -> Answer
 
 // Fills the list with the heights that the file holds.
 pub(crate) fn read_heights(file: &[u8], heights: &mut [i32])
-    requires { ⌜ heightAt (length (now heights)) ≤ length (now file) ⌝ }
+    requires { ⌜ leastSize ≤ length (now file) ⌝ }
+    requires { ⌜ heightAt (versionIn (now file)) (length (now heights)) ≤ length (now file) ⌝ }
     ensures { λ _. ⌜ now (heights .exit) ≡ heightsIn (now (file .entry)) (length (now (heights .entry))) ⌝ }
 {
+    let header = header_size(file);
     let mut i = 0;
     while i < heights.len() {
-        heights[i] = round(tenths_at(file, i));
+        heights[i] = round(tenths_at(file, header + 4 * i));
         i += 1;
     }
 }

@@ -1,5 +1,5 @@
 // Filed heights, in tenths of a millimetre.
-use crate::HEADER;
+use crate::header::header_size;
 use words::as_signed;
 use words::as_unsigned;
 use words::word_at;
@@ -10,8 +10,8 @@ ghost use lib.IntN.{pos, _*ℤ_};
 ghost use lib.ListN.{length};
 ghost use Rattle.surface.specs.Lists.{firstNot};
 ghost use Rattle.surface.specs.Plot.{isHeight};
-ghost use Rattle.surface.specs.SurveyFile.{wordAt, signed, unsigned, isTenths, tenthsOf, rounded};
-ghost use Rattle.survey_file.specs.Layout.{heightAt};
+ghost use Rattle.surface.specs.SurveyFile.{versionIn, wordAt, signed, unsigned, isTenths, tenthsOf, rounded};
+ghost use Rattle.survey_file.specs.Layout.{leastSize, heightAt};
 ghost use Rattle.survey_file.specs.Rounding.{stepFrom};
 
 // The lowest and the highest filed height.
@@ -49,22 +49,24 @@ pub(crate) fn is_tenths(t: i32) -> bool
     !(t < LOWEST_FILED) & !(HIGHEST_FILED < t)
 }
 
-// The filed height of a post.
-pub(crate) fn tenths_at(file: &[u8], post: usize) -> i32
-    requires { ⌜ heightAt (post + 1) ≤ length (now file) ⌝ }
-    ensures { λ r. ⌜ r ≡ signed (wordAt (now (file .entry)) (heightAt post)) ⌝ }
+// The filed height at a byte.
+pub(crate) fn tenths_at(file: &[u8], at: usize) -> i32
+    requires { ⌜ at + 4 ≤ length (now file) ⌝ }
+    ensures { λ r. ⌜ r ≡ signed (wordAt (now (file .entry)) at) ⌝ }
 {
-    as_signed(word_at(file, HEADER + 4 * post))
+    as_signed(word_at(file, at))
 }
 
 // The first of n posts whose filed height is out of range, n where none is.
 pub(crate) fn first_out(file: &[u8], n: usize) -> usize
-    requires { ⌜ heightAt n ≤ length (now file) ⌝ }
+    requires { ⌜ leastSize ≤ length (now file) ⌝ }
+    requires { ⌜ heightAt (versionIn (now file)) n ≤ length (now file) ⌝ }
     ensures { λ r. ⌜ r ≡ firstNot isTenths (tenthsOf (now (file .entry)) n) ⌝ }
 {
+    let header = header_size(file);
     let mut i = 0;
     while i < n {
-        if !is_tenths(tenths_at(file, i)) {
+        if !is_tenths(tenths_at(file, header + 4 * i)) {
             return i;
         }
         i += 1;

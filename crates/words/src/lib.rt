@@ -1,10 +1,11 @@
-// Big-endian 32-bit numbers in a list of bytes, and their signed reading. By arithmetic, which loses nothing; the compiler makes moves of it.
+// Big-endian numbers of 32 and of 16 bits in a list of bytes, and the signed reading of the former. By arithmetic, which loses nothing; the compiler makes
+// moves of it.
 ghost use mathlib.Core.Path.{_≡_};
 ghost use mathlib.Core.List.{reverse};
 ghost use Prim.Native.Nat.{_+_, _<_, _≤_};
 ghost use lib.ListN.{length};
 ghost use lib.Seq.{sets};
-ghost use Rattle.surface.specs.SurveyFile.{wordAt, bytesOf, signed, unsigned};
+ghost use Rattle.surface.specs.SurveyFile.{wordAt, bytesOf, halfAt, halfBytes, signed, unsigned};
 
 pub fn wide(x: u8) -> u32
     ensures { λ r. ⌜ (r ≡ x) × (r < 256) ⌝ }
@@ -40,6 +41,23 @@ pub fn put_word(file: &mut [u8], i: usize, n: u32)
     file[i + 1] = (n / 65536 % 256) as u8;
     file[i + 2] = (n / 256 % 256) as u8;
     file[i + 3] = (n % 256) as u8;
+}
+
+// The 16-bit number at byte i.
+pub fn half_at(file: &[u8], i: usize) -> u32
+    requires { ⌜ i + 2 ≤ length (now file) ⌝ }
+    ensures { λ r. ⌜ r ≡ halfAt (now (file .entry)) i ⌝ }
+{
+    wide(file[i]) * 256 + wide(file[i + 1])
+}
+
+// Puts the 16-bit number n at byte i.
+pub fn put_half(file: &mut [u8], i: usize, n: u32)
+    requires { ⌜ i + 2 ≤ length (now file) ⌝ }
+    ensures { λ _. ⌜ now (file .exit) ≡ sets (now (file .entry)) i (halfBytes n) ⌝ }
+{
+    file[i] = (n / 256 % 256) as u8;
+    file[i + 1] = (n % 256) as u8;
 }
 
 // A 32-bit number read as signed.

@@ -1,27 +1,20 @@
--- `limits::lead_verdict` meets its contract, return by return.
+-- `limits::lead_verdict` meets its contract: the rows of the sheet, then the others.
 use mathlib.Core.Path.{sym, _∙_}
-use borrow.Author.Tests.{eq-eqb, ne-eqb}
-use Rattle.surface.specs.Calls.{plotSaid}
-use Rattle.limits.proofs.Table.{sheet-refused, entry-refused, sheet-passed}
+use mathlib.Core.List.{[], _∷_}
 use borrow.Author.Needs.{needs}
+use Rattle.surface.proofs.OfCalls.Verdicts.{code, leads-refused, leads-passed}
 use Rattle.limits.proofs.lead_verdict.Statement.{statement}
 use Rattle.limits.proofs.lead_verdict.Tie as tie
 
 returns : tie.Need-returns
 returns c =
-    let a = c .before .before .args in
-    sym (sheet-refused (plotSaid (a .said) (a .rows) (a .columns) (a .heights .now)) (eq-eqb _ 13 (c .if1 .taken)))
+    let e = c .before .before .sheet-verdict .ensures in
+    e ∙ sym (leads-refused (_ ∷ _ ∷ []) _ tt (λ z. c .if1 .taken (code e ∙ z)))
 
 returns-2 : tie.Need-returns-2
 returns-2 c =
-    let a = c .before .before .before .before .args in
-    sym (entry-refused (plotSaid (a .said) (a .rows) (a .columns) (a .heights .now)) (ne-eqb _ 13 (c .before .before .if1 .left)) (eq-eqb _ 14 (c .if2 .taken)))
-
-returns-3 : tie.Need-returns-3
-returns-3 c =
-    let a = c .before .before .before .before .before .args in
-    c .plot-verdict .ensures
-    ∙ sym (sheet-passed (plotSaid (a .said) (a .rows) (a .columns) (a .heights .now)) (ne-eqb _ 13 (c .before .before .before .if1 .left)) (ne-eqb _ 14 (c .before .if2 .left)))
+    let at = c .before in
+    c .plot-verdict .ensures ∙ sym (leads-passed (_ ∷ _ ∷ []) _ tt (sym (code (at .before .before .sheet-verdict .ensures)) ∙ at .if1 .left))
 
 pub lead-verdict-spec : {M : Type 1} → statement M
-lead-verdict-spec = tie.close (tie.spec returns returns-2 (search needs) returns-3)
+lead-verdict-spec = tie.close (tie.spec (search needs) returns (search needs) returns-2)

@@ -1,10 +1,14 @@
 -- `survey_file::read_survey` meets its contract: a refusal is handed on, and what an accepted read found is what filling the list asks.
+use Prim.Native.Nat.{_≤_}
 use mathlib.Core.Path.{_≡_, sym, _∙_}
 use native.Mathlib.Omega.{arith}
 use borrow.Author.Needs.{needs}
+use lib.ListN.{length}
+use Rattle.surface.specs.SurveyFile.{versionIn, headerFor}
 use Rattle.surface.specs.Refusals.{readVerdict}
-use Rattle.surface.proofs.OfCalls.Accepted.{ForRead, read-valid}
+use Rattle.surface.proofs.OfCalls.Accepted.{ForRead, read-valid, header-bounds}
 use Rattle.surface.proofs.OfCalls.FileCalls.{read-refused, read-kept, read-served, read-filled}
+use Rattle.survey_file.specs.Layout.{leastSize}
 use Rattle.survey_file.proofs.read_survey.Statement.{statement}
 use Rattle.survey_file.proofs.read_survey.Tie as tie
 
@@ -16,6 +20,11 @@ module _ (c : tie.Else1) where
   found : let a = c .before .before .before .before .before .args in ForRead (a .file .now) (a .heights .now)
   found = read-valid _ _ accepted
 
+  long : let file = c .before .before .before .before .before .args .file .now in (leastSize ≤ length file) × (headerFor (versionIn file) ≤ length file)
+  long =
+      let file = c .before .before .before .before .before .args .file .now in
+      (omega (arith, found .size, header-bounds (versionIn file)), omega (arith, found .size))
+
 returns : tie.Need-returns
 returns c =
     let e = c .before .before .read-verdict .ensures in
@@ -23,13 +32,14 @@ returns c =
     (rw e (sym (read-refused _ _ n)), sym (read-kept _ _ n))
 
 read-heights-requires : tie.Need-read-heights-requires
-read-heights-requires c κs = let f = found (c .before) in omega (arith, f .size, f .room)
+read-heights-requires c κs = let f = found (c .before) in let h = long (c .before) in (h .0, omega (arith, f .size, f .room))
 
 returns-2 : tie.Need-returns-2
 returns-2 c =
-    let a = accepted (c .before .before .before .before .before .before .before) in (
-      rw (c .before .before .wide .ensures .0, c .wide2 .ensures .0) (sym (read-served _ _ a)),
-      c .before .before .before .before .before .read-heights .ensures ∙ sym (read-filled _ _ a),
+    let s = c .before .before .before .before in
+    let a = accepted (s .before .before .before .before) in (
+      rw (c .before .before .wide .ensures .0, c .wide2 .ensures .0, s .spacings-in .ensures) (sym (read-served _ _ a)),
+      s .before .before .read-heights .ensures ∙ sym (read-filled _ _ a),
     )
 
 pub read-survey-spec : {M : Type 1} → statement M
@@ -38,7 +48,7 @@ read-survey-spec =
     (tie.spec
     (search needs) (search needs)
     returns
-    read-heights-requires
-    (λ c. omega (arith, found (c .before .before .before .before) .size)) (search needs)
-    (λ c. omega (arith, found (c .before .before .before .before .before .before) .size)) (search needs) (search needs)
+    read-heights-requires (λ c κs. long (c .before .before .before))
+    (λ c. omega (arith, long (c .before .before .before .before .before))) (search needs)
+    (λ c. omega (arith, long (c .before .before .before .before .before .before .before))) (search needs) (search needs)
     returns-2)

@@ -8,7 +8,7 @@ use lib.IntN.{ℤ}
 use lib.ListN.{length}
 use mir.Syntax.{w32}
 use mir.Val.{toZ, ofZ}
-use Rattle.surface.specs.SurveyFile.{wordAt, signed, rounded}
+use Rattle.surface.specs.SurveyFile.{versionIn, wordAt, signed, rounded}
 use Rattle.surface.proofs.General.ListOf.{Filled, filled-none, filled-more, filled-length, filled-all}
 use Rattle.surface.proofs.OfCalls.SurveyFile.{heightsIn-is}
 use Rattle.survey_file.specs.Layout.{heightAt}
@@ -17,21 +17,21 @@ use Rattle.survey_file.proofs.reading.read_heights.Tie as tie
 
 -- the height that a file has at a post
 abbrev height : List ℕ → ℕ → ℤ
-height file i = rounded (signed (wordAt file (heightAt i)))
+height file i = rounded (signed (wordAt file (heightAt (versionIn file) i)))
 
 abbrev Inv-loop : tie.InvT-loop
-Inv-loop file heights₀ i₀ heights i = (i ≤ length heights₀) × Filled (height file) heights₀ i heights
+Inv-loop file heights₀ header i₀ heights i = (i ≤ length heights₀) × Filled (height file) heights₀ i heights
 
 abbrev μ-loop : tie.MeasureT-loop
-μ-loop file heights₀ i₀ heights i = length heights₀ - i
+μ-loop file heights₀ header i₀ heights i = length heights₀ - i
 
 -- the file and the list as it was lent, seen from the loop's head
 module _ (l : tie.At-loop Inv-loop μ-loop) where
   abbrev F : List ℕ
-  F = l .before .before .args .file .now
+  F = l .before .before .before .args .file .now
 
   abbrev H₀ : List ℤ
-  H₀ = l .before .before .args .heights .now
+  H₀ = l .before .before .before .args .heights .now
 
   kept : length (l .loop .heights) ≡ length H₀
   kept = filled-length (height F) H₀ (l .loop .i) (l .loop .heights) (l .loop .inv .0) (l .loop .inv .1)
@@ -44,7 +44,7 @@ loop-again : tie.Need-loop-again Inv-loop μ-loop
 loop-again c =
     let l = c .before .before .before in
     let r : toZ w32 (ofZ w32 (c .round .result)) ≡ c .round .result = search needs in
-    let v = r ∙ (rw (bits (c .before)) at (c .round .ensures)) ∙ ap rounded (c .before .tenths-at .ensures) in
+    let v = r ∙ (rw (bits (c .before)) at (c .round .ensures)) ∙ ap rounded (rw (l .before .header-size .ensures) at (c .before .tenths-at .ensures)) in
     let h : l .loop .i < length (H₀ l) = omega (arith, kept l) in
     (omega arith, filled-more (height (F l)) (H₀ l) (l .loop .i) (l .loop .heights) _ h (l .loop .inv .1) v)
 
@@ -59,8 +59,11 @@ read-heights-spec =
     (tie.spec
     Inv-loop
     μ-loop
+    (search needs)
     (λ c. (omega arith, filled-none _ _))
-    (λ c κs. omega (arith, kept (c .before)))
+    (λ c. omega (arith, kept (c .before), c .before .before .header-size .ensures))
+    (λ c. omega (arith, kept (c .before), c .before .before .header-size .ensures))
+    (λ c κs. omega (arith, kept (c .before), c .before .before .header-size .ensures))
     (search needs) (search needs) (search needs)
     (λ c. omega (arith, kept (c .before .before .before)))
     (λ c. omega (arith, kept (c .before .before .before)))

@@ -13,4 +13,4 @@ returns c =
     r ∙ c .as-signed .ensures ∙ ap signed (c .before .word-at .ensures)
 
 pub tenths-at-spec : {M : Type 1} → statement M
-tenths-at-spec = tie.close (tie.spec (search needs) (search needs) (search needs) (search needs) returns)
+tenths-at-spec = tie.close (tie.spec (search needs) (search needs) returns)

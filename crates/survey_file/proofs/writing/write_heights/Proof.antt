@@ -10,15 +10,15 @@ use lib.Seq.{sets, length-sets, take-length}
 use mir.Syntax.{w32}
 use mir.Val.{toZ, ofZ}
 use Rattle.surface.specs.Plot.{isHeight}
-use Rattle.surface.specs.SurveyFile.{filedHeights}
+use Rattle.surface.specs.SurveyFile.{headerFor, filedHeights}
 use Rattle.surface.proofs.General.FirstNot.{all-at}
-use Rattle.survey_file.specs.Layout.{headerSize}
+use Rattle.survey_file.specs.Layout.{written}
 use Rattle.survey_file.proofs.Stores.{filed-more}
 use Rattle.survey_file.proofs.writing.write_heights.Statement.{statement}
 use Rattle.survey_file.proofs.writing.write_heights.Tie as tie
 
 abbrev Inv-loop : tie.InvT-loop
-Inv-loop heights file₀ i₀ file i = (i ≤ length heights) × (file ≡ sets file₀ headerSize (filedHeights (take i heights)))
+Inv-loop heights file₀ i₀ file i = (i ≤ length heights) × (file ≡ sets file₀ (headerFor written) (filedHeights (take i heights)))
 
 abbrev μ-loop : tie.MeasureT-loop
 μ-loop heights file₀ i₀ file i = length heights - i
@@ -35,7 +35,7 @@ module _ (l : tie.At-loop Inv-loop μ-loop) where
   h = getD H (l .loop .i) (pos 0)
 
   kept : length (l .loop .file) ≡ length F₀
-  kept = ap length (l .loop .inv .1) ∙ length-sets F₀ headerSize (filedHeights (take (l .loop .i) H))
+  kept = ap length (l .loop .inv .1) ∙ length-sets F₀ (headerFor written) (filedHeights (take (l .loop .i) H))
 
 -- a height's bits are read back as the height
 bits : (c : tie.After-filed-arg Inv-loop μ-loop) → toZ w32 (ofZ w32 (h (c .before .before .before))) ≡ h (c .before .before .before)
