@@ -5,56 +5,41 @@ use native.Mathlib.Nat.{zero-add}
 use mathlib.Core.Path.{_≡_, sym, _∙_, ap}
 use mathlib.Core.Bool.{not}
 use mathlib.Core.List.{List, [], _∷_, _++_}
-use borrow.Author.Tests.{ne-eqb, eqb-true, lt-ltb, le-ltb, ltb-true, not-false}
+use borrow.Author.Tests.{ne-eqb, lt-ltb, le-ltb}
 use lib.ListN.{length}
 use lib.Seq.{sets, sets-eq}
-use Rattle.surface.specs.Plot.{Plot, posts, isHeight, Vertex, PostOf}
+use Rattle.surface.specs.Plot.{Plot, posts, isHeight, Vertex}
 use Rattle.surface.specs.Marks.{markAt}
 use Rattle.surface.specs.Lines.{Descent, walk, runsOf, lineStart, line}
-use Rattle.surface.specs.Refusals.{Row, accepted, verdict, leading, nextVerdict, lineVerdict, row4, row5, row7, row8, row9}
+use Rattle.surface.specs.Refusals.{Row, accepted, verdict, leadingSpaced, nextVerdict, lineVerdict, row4, row5, row7, row8, row9}
 use Rattle.surface.specs.Calls.{lineAnswer, lineList}
 use Rattle.surface.specs.declared.Answer.{Answer}
 use Rattle.surface.specs.declared.Entries.{Entries}
-use Rattle.surface.proofs.General.FirstNot.{ranged-all}
-use Rattle.surface.proofs.AnyOrder.Grid.{test-sides}
+use Rattle.surface.specs.declared.Spacings.{Spacings}
 use Rattle.surface.proofs.AnyOrder.RunMembers.{runs-run}
 use Rattle.surface.proofs.AnyOrder.Walks.{Falling, line-falls}
 use Rattle.surface.proofs.OfCalls.Accepted.{SheetPasses}
 use Rattle.surface.proofs.OfCalls.Verdicts.{code, passed, row-holds, row-passed, none-left, leads-refused, leads-passed}
 
--- what acceptance of a post says: the sheet is not bad, and it is a post of a plot
-module _ (pl : Plot) (post : ℕ) where
+-- what acceptance of a post says beside that it is one of a plot: the sheet is not bad
+module _ (pl : Plot) (s : Spacings) (post : ℕ) where
   abbrev postRows : List Row
-  postRows = leading pl ++ row4 isHeight pl.heights ∷ row5 pl post ∷ []
+  postRows = leadingSpaced pl s ++ row4 isHeight pl.heights ∷ row5 pl post ∷ []
 
-  module _ (e : nextVerdict pl post .code ≡ 0) where
+  module _ (e : nextVerdict pl s post .code ≡ 0) where
     pub post-sheet : SheetPasses pl
     unfolding nextVerdict
     post-sheet = let row = passed postRows tt e in (row 13, row 14)
 
-    pub post-valid : PostOf pl post
-    unfolding nextVerdict
-    post-valid =
-        let row = passed postRows tt e in
-        record {
-          valid =
-              record {
-                sides = test-sides _ _ (not-false _ (row 1));
-                size = eqb-true _ _ (not-false _ (row 2));
-                inRange = ranged-all isHeight pl.heights (row 4);
-              };
-          post = ltb-true post (posts pl) (not-false _ (row 5));
-        }
-
-    pub all-passed : nextVerdict pl post ≡ accepted
+    pub all-passed : nextVerdict pl s post ≡ accepted
     unfolding nextVerdict
     all-passed = leads-passed postRows [] tt e ∙ none-left
 
-module _ (pl : Plot) (d : Descent) (post run : ℕ) (list : List ℕ) where
+module _ (pl : Plot) (s : Spacings) (d : Descent) (post run : ℕ) (list : List ℕ) where
   abbrev pub Outcome : Entries → List ℕ → Type 0
-  Outcome r after = (r ≡ lineAnswer pl d post run list) × (after ≡ lineList pl d post run list)
+  Outcome r after = (r ≡ lineAnswer pl s d post run list) × (after ≡ lineList pl s d post run list)
 
-  refused : (code place : ℕ) → (code ≡ 0 → ⊥) → lineVerdict pl d post run list ≡ record { code = code; place = place }
+  refused : (code place : ℕ) → (code ≡ 0 → ⊥) → lineVerdict pl s d post run list ≡ record { code = code; place = place }
       → Outcome (record { code = code; place = place; count = 0 }) list
   refused code place h e = (rw (e, ne-eqb code 0 h), rw (e, ne-eqb code 0 h))
 
@@ -64,21 +49,21 @@ module _ (pl : Plot) (d : Descent) (post run : ℕ) (list : List ℕ) where
   abbrev lineRows : List Row
   lineRows = row7 pl post ∷ row8 d post run ∷ row9 entries list ∷ []
 
-  pub no-post : (a : Answer) → a ≡ nextVerdict pl post → (a .code ≡ 0 → ⊥)
+  pub no-post : (a : Answer) → a ≡ nextVerdict pl s post → (a .code ≡ 0 → ⊥)
       → Outcome (record { code = a .code; place = a .place; count = 0 }) list
   unfolding nextVerdict lineVerdict
-  no-post a e h = refused (a .code) (a .place) h (leads-refused (postRows pl post) lineRows tt (λ k. h (code e ∙ k)) ∙ sym e)
+  no-post a e h = refused (a .code) (a .place) h (leads-refused (postRows pl s post) lineRows tt (λ k. h (code e ∙ k)) ∙ sym e)
 
-  module _ (z : nextVerdict pl post .code ≡ 0) where
-    rows-left : lineVerdict pl d post run list ≡ verdict lineRows
+  module _ (z : nextVerdict pl s post .code ≡ 0) where
+    rows-left : lineVerdict pl s d post run list ≡ verdict lineRows
     unfolding nextVerdict lineVerdict
-    rows-left = leads-passed (postRows pl post) lineRows tt z
+    rows-left = leads-passed (postRows pl s post) lineRows tt z
 
     pub no-saddle : markAt pl post < 3 → Outcome (record { code = 7; place = 0; count = 0 }) list
     no-saddle h = refused 7 0 (λ e. omega arith) (rows-left ∙ row-holds _ _ (lt-ltb _ 3 h))
 
     module _ (saddle : 3 ≤ markAt pl post) where
-      past-7 : lineVerdict pl d post run list ≡ verdict (row8 d post run ∷ row9 entries list ∷ [])
+      past-7 : lineVerdict pl s d post run list ≡ verdict (row8 d post run ∷ row9 entries list ∷ [])
       past-7 = rows-left ∙ row-passed _ _ (le-ltb _ 3 saddle)
 
       pub no-run : length (runsOf d post) ≤ run → Outcome (record { code = 8; place = 0; count = 0 }) list
@@ -96,7 +81,7 @@ module _ (pl : Plot) (d : Descent) (post run : ℕ) (list : List ℕ) where
         long : length entries ≡ 1 + length way
         long = rw is-line (omega arith)
 
-        past-8 : lineVerdict pl d post run list ≡ verdict (row9 entries list ∷ [])
+        past-8 : lineVerdict pl s d post run list ≡ verdict (row9 entries list ∷ [])
         past-8 = past-7 ∙ row-passed _ _ (ap not (lt-ltb run _ has))
 
         pub too-long : length list ≤ length way → Outcome (record { code = 9; place = 0; count = 0 }) list
@@ -104,7 +89,7 @@ module _ (pl : Plot) (d : Descent) (post run : ℕ) (list : List ℕ) where
 
         pub drawn : length way < length list → Outcome (record { code = 0; place = 0; count = length (post ∷ way) }) (sets list 0 (post ∷ way))
         drawn h =
-            let e : lineVerdict pl d post run list ≡ accepted =
+            let e : lineVerdict pl s d post run list ≡ accepted =
             past-8 ∙ row-passed _ _ (le-ltb (length list) (length entries) (omega (arith, long))) ∙ none-left in
             (rw (e, is-line), rw (e, is-line) (rw zero-add at (sets-eq (post ∷ way) list 0 (omega (arith, long)))))
 

@@ -8,29 +8,21 @@ use borrow.Author.Tests.{ltb-true, ltb-false, lt-ltb, le-ltb, not-true}
 use lib.Dec.{ltb}
 use lib.ListN.{length, getD, length-append}
 use Rattle.surface.specs.Lists.{any, all}
-use Rattle.surface.specs.Plot.{Plot, posts, Vertex, below}
-use Rattle.surface.specs.Edges.{lowest, fallsIn, ringOf}
+use Rattle.surface.specs.Plot.{Plot, posts, Vertex, below, directed}
+use Rattle.surface.specs.Edges.{fallsIn, ringOf}
 use Rattle.surface.specs.Marks.{markFor, mark, markAt}
 use Rattle.surface.specs.Lines.{toward}
+use Rattle.surface.specs.declared.Spacings.{Spacings}
 use Rattle.surface.proofs.General.Bools.{either}
+use Rattle.surface.proofs.AnyOrder.Order.{directed-strict}
 use Rattle.surface.proofs.AnyOrder.RingEdges.{ring-other}
 use Rattle.surface.proofs.AnyOrder.Signs.{any-above}
-use Rattle.surface.proofs.AnyOrder.Walks.{Falling}
-use Rattle.surface.proofs.OfPlots.Instance.{toward-falling}
+use Rattle.surface.proofs.OfPlots.HeightOrder.{below-strict}
 use Rattle.post.specs.declared.ring.Ring.{Ring}
 use Rattle.post.specs.Rings.{held}
 use Rattle.post.proofs.Rings.{held-vertex}
-use Rattle.lines.specs.Runs.{Saddle, StartsAt, lowestFrom, Starts}
+use Rattle.lines.specs.Runs.{Saddle, StartsAt, pickFrom, Starts}
 use Rattle.lines.proofs.Running.{getD-front, getD-back}
-
--- down and up differ in their order alone
-pub toward-ring : (pl : Plot) (up : Bool) (p : ℕ) → toward up pl .ring p ≡ ringOf pl p
-toward-ring pl true p = refl
-toward-ring pl false p = refl
-
-pub toward-pick : (pl : Plot) (up : Bool) (p : ℕ) (l : List ℕ) → toward up pl .pick p l ≡ lowest (toward up pl .lower) l
-toward-pick pl true p l = refl
-toward-pick pl false p l = refl
 
 -- a saddle has neighbours below and above
 saddle-both : (a b : Bool) (k : ℕ) → 3 ≤ markFor a b k → (a ≡ true) × (b ≡ true)
@@ -53,25 +45,22 @@ module _ {pl : Plot} {p : ℕ} {r : Ring} (z : Saddle pl p r) where
   long = ap length (z .holds .members) ∙ sym (z .holds .len)
 
   module _ (up : Bool) where
-    law : Falling (posts pl) (toward up pl)
-    law = toward-falling pl (z .post .valid .sides) up
-
-    above : any (λ q. toward up pl .lower p q) (ringOf pl p) ≡ true
+    above : any (λ q. directed up (below pl) p q) (ringOf pl p) ≡ true
     unfolding markAt mark
     above = go up
       where
         both : (any (λ q. below pl p q) (ringOf pl p) ≡ true) × (any (λ q. below pl q p) (ringOf pl p) ≡ true)
         both = saddle-both _ _ _ (z .saddle)
 
-        go : (up : Bool) → any (λ q. toward up pl .lower p q) (ringOf pl p) ≡ true
+        go : (up : Bool) → any (λ q. directed up (below pl) p q) (ringOf pl p) ≡ true
         go true = both .1
         go false = both .0
 
-    pub mixed : all (λ q. toward up pl .lower q p) (held r) ≡ false
+    pub mixed : all (λ q. directed up (below pl) q p) (held r) ≡ false
     unfolding ringOf
     mixed =
         rw (z .holds .members)
-        (not-true _ (sym (any-above (toward up pl .lower) (law .order) p (ringOf pl p) others) ∙ above))
+        (not-true _ (sym (any-above (directed up (below pl)) (directed-strict up (below-strict pl)) p (ringOf pl p) others) ∙ above))
       where
         others : (q : ℕ) → List·Memᴰ q (ringOf pl p) → q ≡ p → ⊥
         others q = ring-other (z .post .valid .sides) (fallsIn pl) p q (z .post .post)
@@ -95,21 +84,21 @@ module _ {pl : Plot} {p : ℕ} {r : Ring} (z : Saddle pl p r) where
       rw (getD-back (held r) (held r) j (omega (arith, long))) (member-vertex (j - length (held r)) (omega (arith, long))))
 
   -- where a run starts tells where its line goes to
-  module _ (up : Bool) {run place : ℕ} (k : StartsAt (λ q. toward up pl .lower q p) (held r) run place) where
-    pub starts-none : r .len ≤ place → Starts (toward up pl) p run (record { found = false; post = p })
+  module _ (s : Spacings) (up : Bool) {run place : ℕ} (k : StartsAt (λ q. directed up (below pl) q p) (held r) run place) where
+    pub starts-none : r .len ≤ place → Starts (toward pl s up) p run (record { found = false; post = p })
     starts-none h =
         record {
-          found = rw (toward-ring pl up p, ← (z .holds .members)) (sym (k .there ∙ le-ltb place _ (omega (arith, long))));
+          found = rw (← (z .holds .members)) (sym (k .there ∙ le-ltb place _ (omega (arith, long))));
           post = λ e. absurd (true≢false (sym e));
         }
 
-    pub starts-run : place < r .len → (q : ℕ) → q ≡ lowestFrom (toward up pl) p (held r) place
-        → Starts (toward up pl) p run (record { found = true; post = q })
+    pub starts-run : place < r .len → (q : ℕ) → q ≡ pickFrom (toward pl s up) p (held r) place
+        → Starts (toward pl s up) p run (record { found = true; post = q })
     starts-run h q e =
         record {
-          found = rw (toward-ring pl up p, ← (z .holds .members)) (sym (k .there ∙ lt-ltb place _ (omega (arith, long))));
+          found = rw (← (z .holds .members)) (sym (k .there ∙ lt-ltb place _ (omega (arith, long))));
           post =
               λ _.
               let this = sym (k .run (omega (arith, long))) in
-              e ∙ rw (toward-pick pl up p, toward-ring pl up p, ← (z .holds .members)) (ap (lowest (toward up pl .lower)) this);
+              e ∙ rw (← (z .holds .members)) (ap (toward pl s up .pick p) this);
         }

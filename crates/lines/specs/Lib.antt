@@ -1,3 +1,4 @@
--- A walk of a plot; a saddle, and where its lines go to.
+-- A walk of a plot; the order of a choice among vertices; a saddle, and where its lines go to.
 pub mod Walks
+pub mod Slopes
 pub mod Runs

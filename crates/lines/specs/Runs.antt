@@ -6,10 +6,11 @@ use mathlib.Core.List.{List, [], _++_}
 use lib.Dec.{ltb}
 use lib.ListN.{length, getD, drop}
 use Rattle.surface.specs.Lists.{takeWhile}
-use Rattle.surface.specs.Plot.{Plot, PostOf}
-use Rattle.surface.specs.Edges.{lowest, runs, ringOf}
+use Rattle.surface.specs.Plot.{Plot, below, directed, PostOf}
+use Rattle.surface.specs.Edges.{runs, ringOf}
 use Rattle.surface.specs.Marks.{markAt}
-use Rattle.surface.specs.Lines.{Descent, toward, runsOf, lineStart}
+use Rattle.surface.specs.Lines.{Descent, Spaced, runsOf, lineStart}
+use Rattle.surface.specs.declared.Spacings.{Spacings}
 use Rattle.post.specs.declared.ring.Ring.{Ring}
 use Rattle.post.specs.Rings.{held, Holds}
 use Rattle.lines.specs.declared.run.Start.{Start}
@@ -21,10 +22,11 @@ pub record Saddle (pl : Plot) (p : ℕ) (ring : Ring) : Type 0 where
   pub holds : Holds ring (ringOf pl p)
 
 -- place i of its ring is in a run
-pub record InRun (pl : Plot) (up : Bool) (p : ℕ) (ring : Ring) (i : ℕ) : Type 0 where
+pub record InRun (pl : Plot) (s : Spacings) (up : Bool) (p : ℕ) (ring : Ring) (i : ℕ) : Type 0 where
   pub saddle : Saddle pl p ring
+  pub spaced : Spaced s
   pub place : i < ring .len
-  pub lower : toward up pl .lower (getD (held ring) i 0) p ≡ true
+  pub lower : directed up (below pl) (getD (held ring) i 0) p ≡ true
 
 module _ (s : ℕ → Bool) (ring : List ℕ) where
   -- the members round from place i that pass the test
@@ -37,9 +39,9 @@ module _ (s : ℕ → Bool) (ring : List ℕ) where
     pub passes : i < length ring → s (getD ring i 0) ≡ true
     pub run : i < length ring → getD (runs s ring) j [] ≡ runFrom i
 
--- the lowest member of the run of p that starts at place i
-abbrev pub lowestFrom : Descent → ℕ → List ℕ → ℕ → ℕ
-lowestFrom d p ring i = lowest (d .lower) (runFrom (λ q. d .lower q p) ring i)
+-- what is picked of the run of p that starts at place i
+abbrev pub pickFrom : Descent → ℕ → List ℕ → ℕ → ℕ
+pickFrom d p ring i = d .pick p (runFrom (λ q. d .lower q p) ring i)
 
 -- whether there is such a run, and where its line goes to
 pub record Starts (d : Descent) (p run : ℕ) (r : Start) : Type 0 where

@@ -1,16 +1,17 @@
-// The runs of a saddle's ring, lower ones, or upper ones where `up`: where one starts, and its lowest, or highest, member.
+// The runs of a saddle's ring, lower ones, or upper ones where `up`: where one starts, and its steepest member.
+use crate::slope::first_of;
 use order::is_lower;
-use order::lower_of;
 use post::ring::Ring;
 use surface::Grid;
+use surface::Spacings;
 ghost use mathlib.Core.Path.{_≡_};
 ghost use mathlib.Core.List.{_++_};
 ghost use Prim.Native.Nat.{_+_, _≤_, _<_};
 ghost use lib.ListN.{length, getD};
-ghost use Rattle.surface.specs.Plot.{plotOf};
-ghost use Rattle.surface.specs.Lines.{toward};
+ghost use Rattle.surface.specs.Plot.{plotOf, below, directed};
+ghost use Rattle.surface.specs.Lines.{Spaced, toward};
 ghost use Rattle.post.specs.Rings.{held};
-ghost use Rattle.lines.specs.Runs.{Saddle, InRun, StartsAt, lowestFrom, Starts};
+ghost use Rattle.lines.specs.Runs.{Saddle, InRun, StartsAt, pickFrom, Starts};
 
 // Where the line of a saddle and a run goes to from the saddle; not found where the saddle has no such run.
 pub struct Start {
@@ -34,7 +35,7 @@ fn member_at(ring: Ring, j: usize) -> usize
 // The ring place of the first member of run number `run` of p, the length of the ring where there is no such run.
 fn run_at(heights: &[i32], grid: Grid, up: bool, p: usize, ring: Ring, run: u32) -> usize
     requires { ⌜ Saddle (plotOf grid (now heights)) p ring ⌝ }
-    ensures { λ r. ⌜ StartsAt (λ q. toward up (plotOf grid (now (heights .entry))) .lower q p) (held ring) run r ⌝ }
+    ensures { λ r. ⌜ StartsAt (λ q. directed up (below (plotOf grid (now (heights .entry)))) q p) (held ring) run r ⌝ }
 {
     let len = ring.len;
     let mut before = is_lower(heights, grid, up, member_at(ring, len - 1), p);
@@ -53,10 +54,18 @@ fn run_at(heights: &[i32], grid: Grid, up: bool, p: usize, ring: Ring, run: u32)
     i
 }
 
-// The lowest member of the run of p that starts at place i, the highest where `up`.
-fn lowest_from(heights: &[i32], grid: Grid, up: bool, p: usize, ring: Ring, i: usize) -> usize
-    requires { ⌜ InRun (plotOf grid (now heights)) up p ring i ⌝ }
-    ensures { λ r. ⌜ r ≡ lowestFrom (toward up (plotOf grid (now (heights .entry)))) p (held ring) i ⌝ }
+// The steepest member of the run of p that starts at place i, the virtual pit where that is a member.
+fn steepest_from(
+    heights: &[i32],
+    grid: Grid,
+    spacings: Spacings,
+    up: bool,
+    p: usize,
+    ring: Ring,
+    i: usize,
+) -> usize
+    requires { ⌜ InRun (plotOf grid (now heights)) spacings up p ring i ⌝ }
+    ensures { λ r. ⌜ r ≡ pickFrom (toward (plotOf grid (now (heights .entry))) spacings up) p (held ring) i ⌝ }
 {
     let twice = ring.len + ring.len;
     let mut best = member_at(ring, i);
@@ -66,16 +75,24 @@ fn lowest_from(heights: &[i32], grid: Grid, up: bool, p: usize, ring: Ring, i: u
         if !is_lower(heights, grid, up, q, p) {
             return best;
         }
-        best = lower_of(heights, grid, up, best, q);
+        best = first_of(heights, grid, spacings, up, p, best, q);
         j += 1;
     }
     best
 }
 
 // Where the line of saddle p and run number `run` goes to from p.
-pub fn line_start(heights: &[i32], grid: Grid, up: bool, p: usize, ring: Ring, run: u32) -> Start
-    requires { ⌜ Saddle (plotOf grid (now heights)) p ring ⌝ }
-    ensures { λ r. ⌜ Starts (toward up (plotOf grid (now (heights .entry)))) p run r ⌝ }
+pub fn line_start(
+    heights: &[i32],
+    grid: Grid,
+    spacings: Spacings,
+    up: bool,
+    p: usize,
+    ring: Ring,
+    run: u32,
+) -> Start
+    requires { ⌜ Saddle (plotOf grid (now heights)) p ring × Spaced spacings ⌝ }
+    ensures { λ r. ⌜ Starts (toward (plotOf grid (now (heights .entry))) spacings up) p run r ⌝ }
 {
     let place = run_at(heights, grid, up, p, ring, run);
     if ring.len <= place {
@@ -86,6 +103,6 @@ pub fn line_start(heights: &[i32], grid: Grid, up: bool, p: usize, ring: Ring, r
     }
     Start {
         found: true,
-        post: lowest_from(heights, grid, up, p, ring, place),
+        post: steepest_from(heights, grid, spacings, up, p, ring, place),
     }
 }

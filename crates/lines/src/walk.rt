@@ -1,6 +1,7 @@
 // A walk from post to post, down to a pit or up to a peak.
 use next::step::next_at;
 use surface::Grid;
+use surface::Spacings;
 use surface::VIRTUAL_PIT;
 ghost use mathlib.Core.Path.{_≡_};
 ghost use lib.ListN.{length};
@@ -16,9 +17,9 @@ pub struct Walk {
 
 impl Walk {
     // The walk a post on; at an end it stays.
-    pub fn next(self, heights: &[i32], grid: Grid) -> Walk
-        requires { ⌜ WalkOf (plotOf grid (now heights)) self ⌝ }
-        ensures { λ r. ⌜ r ≡ record { post = next (toward (self .up) (plotOf grid (now (heights .entry)))) (self .post); up = self .up } ⌝ }
+    pub fn next(self, heights: &[i32], grid: Grid, spacings: Spacings) -> Walk
+        requires { ⌜ WalkOf (plotOf grid (now heights)) spacings self ⌝ }
+        ensures { λ r. ⌜ r ≡ record { post = next (toward (plotOf grid (now (heights .entry))) spacings (self .up)) (self .post); up = self .up } ⌝ }
     {
         let post = self.post;
         let up = self.up;
@@ -26,22 +27,22 @@ impl Walk {
             return self;
         }
         Walk {
-            post: next_at(heights, grid, post, up),
+            post: next_at(heights, grid, spacings, post, up),
             up,
         }
     }
 }
 
 // How many posts a walk goes by until its end, the first and the end among them.
-pub(crate) fn entries_of(heights: &[i32], grid: Grid, from: Walk) -> usize
-    requires { ⌜ WalkOf (plotOf grid (now heights)) from ⌝ }
-    ensures { λ r. ⌜ r ≡ length (path (plotOf grid (now (heights .entry))) from) ⌝ }
+pub(crate) fn entries_of(heights: &[i32], grid: Grid, spacings: Spacings, from: Walk) -> usize
+    requires { ⌜ WalkOf (plotOf grid (now heights)) spacings from ⌝ }
+    ensures { λ r. ⌜ r ≡ length (path (plotOf grid (now (heights .entry))) spacings from) ⌝ }
 {
     let mut at = from;
     let mut entries: usize = 1;
     let count = loop {
         let here = at.post;
-        let ahead = at.next(heights, grid);
+        let ahead = at.next(heights, grid, spacings);
         if ahead.post == here {
             break entries;
         }

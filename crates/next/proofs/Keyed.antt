@@ -1,24 +1,30 @@
--- Comparing keys is comparing posts, so the lowest key round a post is that of its next post.
+-- Comparing keys is comparing posts, so the steepest key round a post is that of its next post.
 use Prim.Native.Nat.{ℕ, suc, _+_, _-_, _*_, _%_, _<_, _≤_}
 use mathlib.Core.Path.{_≡_, refl, sym, ap, _∙_}
 use mathlib.Core.Bool.{Bool, true, false, cond, not, _&&_, _||_, true≢false}
-use mathlib.Core.List.{List, [], _∷_}
+use mathlib.Core.Logic.{_⊎_, inl, inr}
+use mathlib.Core.List.{List, [], _∷_, _++_}
 use native.Mathlib.Omega.{arith}
+use native.Mathlib.Nat.{mul-pos}
+use native.Mathlib.Decide.{ℕ-discrete}
 use lib.Dec.{ltb}
-use lib.IntN.{ℤ, pos, negsuc, _*ℤ_, +ℤ-idr}
+use lib.IntN.{ℤ, pos, negsuc, natAbs, _-ℤ_, _*ℤ_, +ℤ-idr, +ℤ-invr}
 use mir.Syntax.{w32}
 use mir.Val.{SFits, toZ, ofZ}
 use mir.Facts.{toZ-ofZ}
 use borrow.Author.Needs.{sfits-of}
 use lib.Signed.{ltZ, mag}
 use borrow.Author.Tests.{ltb-true, ltb-false, lt-ltb, le-ltb, not-true}
-use Rattle.surface.specs.Plot.{Plot, below, isHeight, height, virtualPit, Sides, PostOf}
-use Rattle.surface.specs.Edges.{Place, isBorder, top, bottom, left, right}
-use Rattle.surface.specs.Lines.{next, toward}
+use Rattle.surface.specs.Plot.{Plot, below, directed, isHeight, height, virtualPit, Sides, PostOf}
+use Rattle.surface.specs.Edges.{lowerOf, Place, place, isBorder, top, bottom, left, right}
+use Rattle.surface.specs.Lines.{Spaced, squared, squaredLength, squaredDrop, next, toward}
+use Rattle.surface.specs.declared.Spacings.{Spacings}
 use Rattle.surface.specs.Flags.{flipped}
 use Rattle.surface.proofs.General.Bools.{either, and-left}
 use Rattle.surface.proofs.General.FirstNot.{all-at}
+use Rattle.surface.proofs.AnyOrder.Order.{StrictTotal}
 use Rattle.surface.proofs.OfPlots.HeightOrder.{below-lex}
+use Rattle.surface.proofs.OfPlots.Steepest.{length-some}
 use Rattle.order.specs.Ties.{Near, tiePlace}
 use Rattle.order.proofs.Places.{number-tells, place-small, place-driven}
 use Rattle.post.specs.declared.border.Borders.{Borders}
@@ -26,9 +32,11 @@ use Rattle.post.specs.declared.corner.Corners.{Corners}
 use Rattle.post.specs.Corners.{bordersOf}
 use Rattle.post.proofs.Around.{both}
 use Rattle.next.specs.declared.key.Block.{Block}
-use Rattle.next.specs.Scan.{inside, cells, scan, turn, cornersLower}
-use Rattle.next.specs.Keys.{keyBy, keyOf, isKey, numberIn, blockOf, cornersKept, around, farther, farthest, farthestOf}
-use Rattle.next.proofs.Scanned.{toward-strict}
+use Rattle.next.specs.Scan.{inside, cells, step, scan, turn, cornersLower}
+use Rattle.next.specs.Keys.{There, keyBy, keyOf, isKey, numberIn, blockOf, cornersKept, farther, farthest, heightIn, dropIn, overtakes, steepestAmong, steepestIn, steepestOf}
+use Rattle.next.proofs.Onward.{fallTo, onward, onward-strict}
+use Rattle.next.proofs.Scanned.{to-front, scan-joins, scan-low, AllIn, all-in, scan-holds, scan-agree, toward-strict}
+use Rattle.next.proofs.Distances.{lengthAt, length-stands, Group, group-agree}
 use Rattle.next.proofs.Corners.{next-block, inside-at}
 use Rattle.next.proofs.Nine.{there-near, own-there, n-there, ne-there, e-there, se-there, s-there, sw-there, w-there, nw-there}
 
@@ -72,6 +80,11 @@ key-low (pos n) i h e = refl
 key-low (negsuc n) i h e =
     rw (key-negative n i h) (ap not (le-ltb 2047999999 (n * 2048 + (2047 - i)) (omega (arith, ltb-false 999999 n (not-true _ (and-left _ _ e))))))
 
+-- a key tells its height
+key-height : (a : ℤ) (i : ℕ) → i < 2048 → heightIn (keyBy a i) ≡ a
+key-height (pos n) i h = ap pos (omega arith)
+key-height (negsuc n) i h = rw (key-negative n i h) (ap negsuc (omega arith))
+
 -- a key fits 32 bits, and so does its height's part
 pub key-fits : (a : ℤ) (i : ℕ) → i < 2048 → isHeight a ≡ true → SFits w32 (keyBy a i)
 key-fits (pos n) i h e = record { sfits = omega (arith, ltb-false 1000000 n (not-true _ e)) }
@@ -98,9 +111,8 @@ level false k = refl
 
 -- ---- the posts round p that are there are of the nine
 
-unfoldable AllNear : ℕ → ℕ → List Place → Type 0
-AllNear columns p [] = Unit {0}
-AllNear columns p (y ∷ l) = (y .taken ≡ true → Near columns p (y .member)) × AllNear columns p l
+abbrev AllNear : ℕ → ℕ → List Place → Type 0
+AllNear columns p = AllIn (Near columns p)
 
 -- corners whose cells are there
 record Within (at : Borders) (joined : Corners) : Type 0 where
@@ -126,35 +138,55 @@ lower-within lower columns p at =
       nw = first-two (not (at .left)) (not (at .top)) _;
     }
 
-turn-near : {pl : Plot} {p : ℕ} (post : PostOf pl p) (joined : Corners) → let at = bordersOf pl.rows pl.columns p in
-    Within at joined → AllNear pl.columns p (turn pl.columns p at joined)
-unfolding AllNear
-turn-near {pl} {p} post joined w =
-    let t = top pl.columns p in
-    let r = right pl.columns p in
-    let b = bottom pl.rows pl.columns p in
-    let l = left pl.columns p in (
-      λ h. there-near (n-there post (not-true t h)),
-      (
-        λ h. let k = both t r (w .ne h) in there-near (ne-there post (k .0) (k .1)),
-        (
-          λ h. there-near (e-there post (not-true r h)),
-          (
-            λ h. let k = both r b (w .se h) in there-near (se-there post (k .0) (k .1)),
-            (
-              λ h. there-near (s-there post (not-true b h)),
-              (
-                λ h. let k = both b l (w .sw h) in there-near (sw-there post (k .0) (k .1)),
-                (
-                  λ h. there-near (w-there post (not-true l h)),
-                  (λ h. let k = both l t (w .nw h) in there-near (nw-there post (k .0) (k .1)), tt),
-                ),
-              ),
-            ),
-          ),
-        ),
-      ),
-    )
+-- the places round p along the row, along the column and across cells
+abbrev rowPlaces : ℕ → Borders → List Place
+rowPlaces p at = place (not (at .right)) (p + 1) ∷ place (not (at .left)) (p - 1) ∷ []
+
+abbrev columnPlaces : ℕ → ℕ → Borders → List Place
+columnPlaces columns p at = place (not (at .top)) (p - columns) ∷ place (not (at .bottom)) (p + columns) ∷ []
+
+abbrev cornerPlaces : ℕ → ℕ → Corners → List Place
+cornerPlaces columns p joined =
+    place (joined .ne) (p - (columns - 1))
+    ∷ place (joined .se) (p + (columns + 1))
+    ∷ place (joined .sw) (p + (columns - 1))
+    ∷ place (joined .nw) (p - (columns + 1))
+    ∷ []
+
+-- a scan of all of them: the first of what is found in each
+by-groups : (f : ℕ → ℕ → Bool) → StrictTotal f → (columns p : ℕ) (at : Borders) (joined : Corners)
+    → scan f p (turn columns p at joined)
+    ≡ lowerOf f (lowerOf f (scan f p (rowPlaces p at)) (scan f p (columnPlaces columns p at))) (scan f p (cornerPlaces columns p joined))
+unfolding scan
+by-groups f o columns p at joined =
+    let n = place (not (at .top)) (p - columns) in
+    let e = place (not (at .right)) (p + 1) in
+    let s = place (not (at .bottom)) (p + columns) in
+    let w = place (not (at .left)) (p - 1) in
+    let ne = place (joined .ne) (p - (columns - 1)) in
+    let se = place (joined .se) (p + (columns + 1)) in
+    let sw = place (joined .sw) (p + (columns - 1)) in
+    let nw = place (joined .nw) (p - (columns + 1)) in
+    to-front f o p (n ∷ ne ∷ []) e (se ∷ s ∷ sw ∷ w ∷ nw ∷ [])
+    ∙ to-front f o (step f p e) (n ∷ ne ∷ se ∷ s ∷ sw ∷ []) w (nw ∷ [])
+    ∙ to-front f o (step f (step f (step f p e) w) n) (ne ∷ se ∷ []) s (sw ∷ nw ∷ [])
+    ∙ scan-joins f o p (rowPlaces p at ++ columnPlaces columns p at) (cornerPlaces columns p joined)
+    ∙ ap (λ (z : ℕ). lowerOf f z (scan f p (cornerPlaces columns p joined))) (scan-joins f o p (rowPlaces p at) (columnPlaces columns p at))
+
+-- products that tell the same where an edge has another length: where nothing falls along it
+SameLength : ℕ → ℕ → ℕ → Type 0
+SameLength f l m = (l ≡ m) ⊎ ((f ≡ 0) × (0 < l) × (0 < m))
+
+weighed : (f g l m l′ m′ : ℕ) → SameLength f l l′ → SameLength g m m′ → ltb (f * m) (g * l) ≡ ltb (f * m′) (g * l′)
+unfolding SameLength
+weighed f g l m l′ m′ (inl a) (inl b) = rw (a, b)
+weighed f g l m l′ m′ (inl a) (inr b) = rw (b .0, le-ltb (f * m) (0 * l) (omega arith), le-ltb (f * m′) (0 * l′) (omega arith))
+weighed f g l m l′ m′ (inr a) (inl b) =
+    rw (a .0)
+    (either (ltb 0 g)
+    (λ e. let h = ltb-true 0 g e in lt-ltb (0 * m) (g * l) (omega (arith, mul-pos h (a .1))) ∙ sym (lt-ltb (0 * m′) (g * l′) (omega (arith, mul-pos h (a .2)))))
+    (λ e. let h : g ≡ 0 = omega (arith, ltb-false 0 g e) in rw (h, le-ltb (0 * m) (0 * l) (omega arith), le-ltb (0 * m′) (0 * l′) (omega arith))))
+weighed f g l m l′ m′ (inr a) (inr b) = rw (a .0, b .0, le-ltb (0 * m) (0 * l) (omega arith), le-ltb (0 * m′) (0 * l′) (omega arith))
 
 module _ (pl : Plot) (p : ℕ) where
   abbrev key : ℕ → ℤ
@@ -190,30 +222,30 @@ module _ (pl : Plot) (p : ℕ) where
         no-pit : (q : ℕ) → Near pl.columns p q → q ≡ virtualPit → ⊥
         no-pit q m e = omega (arith, number-tells sides p q m .post, number-tells sides p q m .small, post .post, sides)
 
-    farther-key : (up : Bool) (q r : ℕ) → Near pl.columns p q → Near pl.columns p r → farther up (key q) (key r) ≡ toward up pl .lower q r
+    farther-key : (up : Bool) (q r : ℕ) → Near pl.columns p q → Near pl.columns p r → farther up (key q) (key r) ≡ directed up (below pl) q r
     farther-key true q r m n = key-below r q n m
     farther-key false q r m n = key-below q r m n
 
     -- the lowest key is that of what the scan finds
-    found : (up : Bool) (x : ℕ) (l : List Place) → Near pl.columns p x → toward up pl .lower p x ≡ false → AllNear pl.columns p l
-        → (farthest up (key x) (keys l) ≡ key (scan (toward up pl .lower) x l)) × Near pl.columns p (scan (toward up pl .lower) x l)
-    unfolding scan farthest keys AllNear
+    found : (up : Bool) (x : ℕ) (l : List Place) → Near pl.columns p x → directed up (below pl) p x ≡ false → AllNear pl.columns p l
+        → (farthest up (key x) (keys l) ≡ key (scan (directed up (below pl)) x l)) × Near pl.columns p (scan (directed up (below pl)) x l)
+    unfolding scan farthest keys AllIn
     found up x [] n h a = (refl, n)
     found up x (y ∷ l) n h a = go (y .taken) (a .0) (λ m f. found up (y .member) l m f (a .1)) (found up x l n h (a .1))
       where
         Told : ℤ → ℕ → Type 0
-        Told k z = (farthest up k (keys l) ≡ key (scan (toward up pl .lower) z l)) × Near pl.columns p (scan (toward up pl .lower) z l)
+        Told k z = (farthest up k (keys l) ≡ key (scan (directed up (below pl)) z l)) × Near pl.columns p (scan (directed up (below pl)) z l)
 
-        above : toward up pl .lower (y .member) x ≡ true → toward up pl .lower p (y .member) ≡ false
-        above e = either (toward up pl .lower p (y .member)) (λ f. absurd (true≢false (sym (toward-strict up pl .trans p (y .member) x f e) ∙ h))) (λ f. f)
+        above : directed up (below pl) (y .member) x ≡ true → directed up (below pl) p (y .member) ≡ false
+        above e = either (directed up (below pl) p (y .member)) (λ f. absurd (true≢false (sym (toward-strict up pl .trans p (y .member) x f e) ∙ h))) (λ f. f)
 
         go : (t : Bool) → (t ≡ true → Near pl.columns p (y .member))
-            → (Near pl.columns p (y .member) → toward up pl .lower p (y .member) ≡ false → Told (key (y .member)) (y .member)) → Told (key x) x
+            → (Near pl.columns p (y .member) → directed up (below pl) p (y .member) ≡ false → Told (key (y .member)) (y .member)) → Told (key x) x
             → let m = key (cond t (y .member) p) in
-            Told (cond (farther up m (key x)) m (key x)) (cond t (cond (toward up pl .lower (y .member) x) (y .member) x) x)
+            Told (cond (farther up m (key x)) m (key x)) (cond t (cond (directed up (below pl) (y .member) x) (y .member) x) x)
         go true m i j =
             rw (farther-key up (y .member) x (m refl) n)
-            (either (toward up pl .lower (y .member) x) (λ e. rw e (i (m refl) (above e))) (λ e. rw e j))
+            (either (directed up (below pl) (y .member) x) (λ e. rw e (i (m refl) (above e))) (λ e. rw e j))
         go false m i j = rw (farther-key up p x own n, h) j
 
     tells : (k : ℤ) (q : ℕ) → k ≡ key q → Near pl.columns p q → Tells k q
@@ -231,27 +263,23 @@ module _ (pl : Plot) (p : ℕ) where
         last-digits : (t n : ℕ) → n < 256 → (256 * t + n) % 256 ≡ n
         last-digits t n h = omega arith
 
-    found-told : (up : Bool) (k : ℤ) (q : ℕ) (l : List Place) → AllNear pl.columns p l → k ≡ farthest up (key p) (keys l) → q ≡ scan (toward up pl .lower) p l → Tells k q
-    found-told up k q l a e f =
-        let w = found up p l own (toward-strict up pl .irrefl p) a in
-        tells k q (e ∙ w .0 ∙ ap key (sym f)) (rw f (w .1))
-
     -- a corner that is kept where both sides x and y are that way from p; a and b: a border on which x, or y, is not there
     kept : (up a b : Bool) (x y q : ℕ) → (not a ≡ true → Near pl.columns p x) → (not b ≡ true → Near pl.columns p y)
         → cond (farther up (key (cond (not a) x p)) (key p) && farther up (key (cond (not b) y p)) (key p)) (key (cond (not a && not b) q p)) (key p)
-        ≡ key (cond (not a && (not b && (toward up pl .lower x p && toward up pl .lower y p))) q p)
+        ≡ key (cond (not a && (not b && (directed up (below pl) x p && directed up (below pl) y p))) q p)
     kept up true b x y q n m = level (farther up (key p) (key p) && farther up (key (cond (not b) y p)) (key p)) (key p)
     kept up false true x y q n m = level (farther up (key x) (key p) && farther up (key p) (key p)) (key p)
     kept up false false x y q n m =
         rw (farther-key up x p (n refl) own, farther-key up y p (m refl) own)
-        (pull (toward up pl .lower x p && toward up pl .lower y p))
+        (pull (directed up (below pl) x p && directed up (below pl) y p))
       where
         pull : (g : Bool) → cond g (key q) (key p) ≡ key (cond g q p)
         pull true = refl
         pull false = refl
 
     -- the block with its corners kept is that of the corners that way
-    kept-keys : (up : Bool) → around (cornersKept up (blockOf key pl.columns p at)) ≡ keys (turn pl.columns p at (cornersLower (toward up pl .lower) pl.columns p at))
+    kept-keys : (up : Bool) → let b = cornersKept up (blockOf key pl.columns p at) in
+        b .ne ∷ b .se ∷ b .sw ∷ b .nw ∷ [] ≡ keys (cornerPlaces pl.columns p (cornersLower (directed up (below pl)) pl.columns p at))
     unfolding keys
     kept-keys up =
         let n : not (at .top) ≡ true → Near pl.columns p (p - pl.columns) = λ h. there-near (n-there post (not-true _ h)) in
@@ -265,30 +293,170 @@ module _ (pl : Plot) (p : ℕ) where
           kept up (at .left) (at .top) (p - 1) (p - pl.columns) (p - (pl.columns + 1)) w n,
         )
 
--- next down and next up, by the lowest and the highest key
-module _ {pl : Plot} {p : ℕ} (post : PostOf pl p) where
+    -- one of three posts that a step may go to: the lowest at one distance, or p where none there is lower
+    module _ (spacings : Spacings) (spaced : Spaced spacings) (up : Bool) where
+      abbrev lower : ℕ → ℕ → Bool
+      lower = directed up (below pl)
+
+      abbrev ahead : ℕ → ℕ → Bool
+      ahead = onward pl spacings lower p
+
+      record Candidate (l q : ℕ) : Type 0 where
+        pub near : Near pl.columns p q
+        pub low : lower p q ≡ false
+        pub group : Group post spacings spaced up l q
+
+      -- what a scan of places at one distance finds
+      group-near : (l q : ℕ) → Group post spacings spaced up l q → Near pl.columns p q
+      group-near l q (inl e) = rw e own
+      group-near l q (inr t) = rw (← t .is) (there-near (t .there))
+
+      candidate : (l : ℕ) (ps : List Place) → AllIn (Group post spacings spaced up l) ps → Candidate l (scan lower p ps)
+      candidate l ps a =
+          let g = scan-holds lower (Group post spacings spaced up l) p ps (inl refl) a in
+          record { near = group-near l _ g; low = scan-low lower (toward-strict up pl) p ps; group = g }
+
+      keyed : (l : ℕ) (ps : List Place) → AllIn (Group post spacings spaced up l) ps → farthest up (key p) (keys ps) ≡ key (scan lower p ps)
+      keyed l ps a = found up p ps own (toward-strict up pl .irrefl p) (all-in _ _ (group-near l) ps a) .0
+
+      ahead-same : (l : ℕ) (ps : List Place) → AllIn (Group post spacings spaced up l) ps → scan ahead p ps ≡ scan lower p ps
+      ahead-same l ps a = scan-agree ahead lower (Group post spacings spaced up l) (group-agree post spacings spaced up l) p ps (inl refl) a
+
+      -- its squared drop, and its distance
+      falls : (l q : ℕ) → Candidate l q → squared (dropIn (key p) (key q)) ≡ fallTo pl spacings lower p q
+      unfolding fallTo squaredDrop
+      falls l q c =
+          rw (key-height (height pl p) _ (place-small sides p p own), key-height (height pl q) _ (place-small sides p q (c .near)))
+          (either (lower q p) (λ e. rw e) (λ e. rw e (level-none e)))
+        where
+          level-none : lower q p ≡ false → squared (natAbs (height pl p -ℤ height pl q)) ≡ 0
+          level-none e = go (ℕ-discrete q p)
+            where
+              go : Dec (q ≡ p) → squared (natAbs (height pl p -ℤ height pl q)) ≡ 0
+              go (yes i) = rw (i, +ℤ-invr (height pl p))
+              go (no i) = absurd (true≢false (sym (toward-strict up pl .other q p i ∙ ap not e) ∙ c .low))
+
+      far : (l q : ℕ) → 0 < l → Candidate l q → SameLength (fallTo pl spacings lower p q) l (squaredLength pl spacings p q)
+      unfolding SameLength fallTo
+      far l q h c = go (c .group)
+        where
+          go : Group post spacings spaced up l q → SameLength (fallTo pl spacings lower p q) l (squaredLength pl spacings p q)
+          go (inl e) = inr (rw (e, toward-strict up pl .irrefl p), h, length-some pl spacings spaced p q)
+          go (inr t) = inl (rw (← t .is) (sym (length-stands pl spacings p (t .there .q) (t .down) (t .along) (t .there .stands) ∙ t .far)))
+
+      -- so keys tell which of two goes first
+      overtakes-ahead : (l m x y : ℕ) → 0 < l → 0 < m → Candidate l x → Candidate m y → overtakes up (key p) (key x) l (key y) m ≡ ahead y x
+      unfolding onward
+      overtakes-ahead l m x y h i c d =
+          let f = fallTo pl spacings lower p in
+          rw (
+            falls l x c,
+            falls m y d,
+            farther-key up y x (d .near) (c .near),
+            weighed (f x) (f y) l m _ _ (far l x h c) (far m y i d),
+            weighed (f y) (f x) m l _ _ (far m y i d) (far l x h c),
+          )
+
+      -- the steepest of three
+      among : (r c d : ℕ) → let e = squared (spacings .east) in let s = squared (spacings .south) in
+          0 < e → 0 < s → Candidate e r → Candidate s c → Candidate (e + s) d
+          → (steepestAmong up spacings (key p) (key r) (key c) (key d) ≡ key (lowerOf ahead (lowerOf ahead r c) d)) × Near pl.columns p (lowerOf ahead (lowerOf ahead r c) d)
+      among r c d he hs cr cc cd =
+          rw (overtakes-ahead _ _ r c he hs cr cc)
+          (either (ahead c r)
+          (λ t. rw (t, overtakes-ahead _ _ c d hs (omega (arith, he)) cc cd) (last (ahead d c) c (cc .near)))
+          (λ t. rw (t, overtakes-ahead _ _ r d he (omega (arith, he)) cr cd) (last (ahead d r) r (cr .near))))
+        where
+          last : (b : Bool) (x : ℕ) → Near pl.columns p x → (cond b (key d) (key x) ≡ key (cond b d x)) × Near pl.columns p (cond b d x)
+          last true x n = (refl, cd .near)
+          last false x n = (refl, n)
+
+-- next down and next up, by the steepest key
+module _ {pl : Plot} {p : ℕ} (post : PostOf pl p) (spacings : Spacings) (spaced : Spaced spacings) where
   abbrev block : Borders → Block
   block = blockOf (keyOf pl p) pl.columns p
 
   abbrev here : Borders
   here = bordersOf pl.rows pl.columns p
 
-  -- of the block, or of that with its corners kept
-  told : (upward s : Bool) (k : ℤ)
-      → k ≡ farthest upward (keyOf pl p p) (around (cond s (cornersKept upward (block here)) (block here)))
-      → next (toward upward pl) p ≡ scan (toward upward pl .lower) p (turn pl.columns p here (cond s (cornersLower (toward upward pl .lower) pl.columns p here) (cells here)))
-      → Tells pl p k (next (toward upward pl) p)
-  unfolding keys
-  told upward true k e f =
-      found-told pl p post upward k _ _ (turn-near post (cornersLower (toward upward pl .lower) pl.columns p here) (lower-within (toward upward pl .lower) pl.columns p here)) (e ∙ ap (farthest upward (keyOf pl p p)) (kept-keys pl p post upward)) f
-  told upward false k e f = found-told pl p post upward k _ _ (turn-near post (cells here) (cells-within here)) e f
+  module _ (upward : Bool) where
+    abbrev InGroup : ℕ → List Place → Type 0
+    InGroup l = AllIn (Group post spacings spaced upward l)
 
-  pub next-told : (upward : Bool) → (upward ≡ false → isBorder pl.rows pl.columns p ≡ false) → (k : ℤ)
-      → k ≡ farthestOf upward pl.highest (block (bordersOf pl.rows pl.columns p))
-      → Tells pl p k (next (toward upward pl) p)
-  next-told upward off k e = told upward (flipped pl.highest upward) k e (next-block post upward off)
+    at-group : (l q down along : ℕ) (t : There pl p down along) → t .q ≡ q → lengthAt spacings down along ≡ l → Group post spacings spaced upward l q
+    at-group l q down along t e f = inr (record { down = down; along = along; there = t; is = e; far = f })
 
-  pub inside-told : (upward : Bool) → isBorder pl.rows pl.columns p ≡ false → (k : ℤ) → k ≡ farthestOf upward pl.highest (block inside)
-      → Tells pl p k (next (toward upward pl) p)
-  inside-told upward border k e =
-      next-told upward (λ _. border) k (e ∙ ap (λ (at : Borders). farthestOf upward pl.highest (block at)) (sym (inside-at post border)))
+    in-row : InGroup (squared (spacings .east)) (rowPlaces p here)
+    unfolding AllIn
+    in-row = (
+      λ h. at-group _ _ 1 2 (e-there post (not-true _ h)) refl refl,
+      (λ h. at-group _ _ 1 0 (w-there post (not-true _ h)) refl refl, tt),
+    )
+
+    in-column : InGroup (squared (spacings .south)) (columnPlaces pl.columns p here)
+    unfolding AllIn
+    in-column = (
+      λ h. at-group _ _ 0 1 (n-there post (not-true _ h)) refl refl,
+      (λ h. at-group _ _ 2 1 (s-there post (not-true _ h)) refl refl, tt),
+    )
+
+    across : (joined : Corners) → Within here joined → InGroup (squared (spacings .east) + squared (spacings .south)) (cornerPlaces pl.columns p joined)
+    unfolding AllIn
+    across joined w =
+        let t = top pl.columns p in
+        let r = right pl.columns p in
+        let b = bottom pl.rows pl.columns p in
+        let l = left pl.columns p in (
+          λ h. let k = both t r (w .ne h) in at-group _ _ 0 2 (ne-there post (k .0) (k .1)) refl refl,
+          (
+            λ h. let k = both r b (w .se h) in at-group _ _ 2 2 (se-there post (k .0) (k .1)) refl refl,
+            (
+              λ h. let k = both b l (w .sw h) in at-group _ _ 2 0 (sw-there post (k .0) (k .1)) refl refl,
+              (λ h. let k = both l t (w .nw h) in at-group _ _ 0 0 (nw-there post (k .0) (k .1)) refl refl, tt),
+            ),
+          ),
+        )
+
+    -- of the block, or of that with its corners kept
+    told : (joined : Corners) → Within here joined → (k corner : ℤ) → corner ≡ farthest upward (keyOf pl p p) (keys pl p (cornerPlaces pl.columns p joined))
+        → k ≡ steepestAmong upward spacings (keyOf pl p p) (farthest upward (keyOf pl p p) (keys pl p (rowPlaces p here))) (farthest upward (keyOf pl p p) (keys pl p (columnPlaces pl.columns p here))) corner
+        → next (toward pl spacings upward) p ≡ scan (onward pl spacings (directed upward (below pl)) p) p (turn pl.columns p here joined)
+        → Tells pl p k (next (toward pl spacings upward) p)
+    told joined w k corner c e f =
+        let lower = directed upward (below pl) in
+        let ahead = onward pl spacings lower p in
+        let a = across joined w in
+        let m =
+        among pl p post spacings spaced upward _ _ _ (mul-pos (spaced .eastSome) (spaced .eastSome)) (mul-pos (spaced .southSome) (spaced .southSome))
+        (candidate pl p post spacings spaced upward _ (rowPlaces p here) in-row)
+        (candidate pl p post spacings spaced upward _ (columnPlaces pl.columns p here) in-column)
+        (candidate pl p post spacings spaced upward _ (cornerPlaces pl.columns p joined) a)
+        in
+        let n : next (toward pl spacings upward) p ≡ lowerOf ahead (lowerOf ahead (scan lower p (rowPlaces p here)) (scan lower p (columnPlaces pl.columns p here))) (scan lower p (cornerPlaces pl.columns p joined)) =
+        f
+        ∙ by-groups ahead (onward-strict pl spacings lower p (toward-strict upward pl) spaced) pl.columns p here joined
+        ∙ rw (ahead-same pl p post spacings spaced upward _ (rowPlaces p here) in-row, ahead-same pl p post spacings spaced upward _ (columnPlaces pl.columns p here) in-column, ahead-same pl p post spacings spaced upward _ (cornerPlaces pl.columns p joined) a)
+        in
+        tells pl p post k _
+        (e
+        ∙ rw (c, keyed pl p post spacings spaced upward _ (rowPlaces p here) in-row, keyed pl p post spacings spaced upward _ (columnPlaces pl.columns p here) in-column, keyed pl p post spacings spaced upward _ (cornerPlaces pl.columns p joined) a) (m .0)
+        ∙ ap (keyOf pl p) (sym n))
+        (rw n (m .1))
+
+    pub next-told : (upward ≡ false → isBorder pl.rows pl.columns p ≡ false) → (k : ℤ)
+        → k ≡ steepestOf upward pl.highest spacings (block here)
+        → Tells pl p k (next (toward pl spacings upward) p)
+    unfolding keys
+    next-told off k e = go (flipped pl.highest upward) e (next-block post spacings spaced upward off)
+      where
+        go : (s : Bool) → k ≡ steepestIn upward spacings (cond s (cornersKept upward (block here)) (block here))
+            → next (toward pl spacings upward) p
+            ≡ scan (onward pl spacings (directed upward (below pl)) p) p (turn pl.columns p here (cond s (cornersLower (directed upward (below pl)) pl.columns p here) (cells here)))
+            → Tells pl p k (next (toward pl spacings upward) p)
+        go true e f = told (cornersLower (directed upward (below pl)) pl.columns p here) (lower-within (directed upward (below pl)) pl.columns p here) k _ (ap (farthest upward (keyOf pl p p)) (kept-keys pl p post upward)) e f
+        go false e f = told (cells here) (cells-within here) k _ refl e f
+
+    pub inside-told : isBorder pl.rows pl.columns p ≡ false → (k : ℤ) → k ≡ steepestOf upward pl.highest spacings (block inside)
+        → Tells pl p k (next (toward pl spacings upward) p)
+    inside-told border k e =
+        next-told (λ _. border) k (e ∙ ap (λ (at : Borders). steepestOf upward pl.highest spacings (block at)) (sym (inside-at post border)))

@@ -1,23 +1,28 @@
--- Next down and next up as a scan of the places round a post, in any order: a step takes a place's member where it is lower than what was found so
--- far. Over any strict total order; next up is next down in the reversed order.
+-- Next down and next up as a scan of the places round a post: a step takes a place's member where it goes before what was found so far. Over any strict
+-- total order; next goes by the order onward from the post.
 use Prim.Native.Nat.{ℕ, _+_, _-_}
-use mathlib.Core.Path.{_≡_, refl, sym, ap, _∙_}
+use mathlib.Core.Path.{_≡_, refl, sym, ap, _∙_, fun-ext}
 use mathlib.Core.Bool.{Bool, true, false, cond, not, _&&_, _||_, true≢false, or-true}
-use mathlib.Core.List.{List, [], _∷_, _++_}
+use mathlib.Core.List.{List, [], _∷_, _++_, List·Memᴰ, List·Memᴰ·head, List·Memᴰ·tail}
 use native.Mathlib.Omega.{arith}
 use lib.Dec.{eqb}
 use borrow.Author.Tests.{eqb-true, eqb-false, ne-eqb}
 use Rattle.surface.specs.Lists.{keep, any, filter}
-use Rattle.surface.specs.Plot.{Plot, virtualPit, below, reversed, PostOf}
+use Rattle.surface.specs.Plot.{Plot, virtualPit, below, reversed, directed, PostOf}
 use Rattle.surface.specs.Edges.{lowerOf, lowest, lowestOr, Place, place, members, places, ring, top, bottom, left, right, isBorder, fallsIn, ringOf}
-use Rattle.surface.specs.Lines.{isEnd, next, lowestOf, down, up, toward}
+use Rattle.surface.specs.Lines.{Spaced, before, steepest, isEnd, next, toward}
+use Rattle.surface.specs.declared.Spacings.{Spacings}
 use Rattle.surface.proofs.General.Bools.{either}
 use Rattle.surface.proofs.AnyOrder.Grid.{not-pit, top-false}
 use Rattle.surface.proofs.AnyOrder.RingPlaces.{diagonal}
-use Rattle.surface.proofs.AnyOrder.Order.{StrictTotal, reversed-strict}
+use Rattle.surface.proofs.AnyOrder.RingEdges.{ring-pit}
+use Rattle.surface.proofs.AnyOrder.Order.{StrictTotal, directed-strict}
+use Rattle.surface.proofs.AnyOrder.Walks.{filter-member}
 use Rattle.surface.proofs.OfPlots.HeightOrder.{below-strict, not-below-pit}
+use Rattle.surface.proofs.OfPlots.Steepest.{no-pit}
 use Rattle.post.specs.Corners.{bordersOf, cornersOf}
 use Rattle.next.specs.Scan.{step, scan, turn}
+use Rattle.next.proofs.Onward.{onward, onward-before, onward-strict, onward-own, never-onward}
 
 flip : (t : Bool) (a b : ℕ) → cond (not t) b a ≡ cond t a b
 flip true a b = refl
@@ -79,11 +84,41 @@ module _ (lower : ℕ → ℕ → Bool) where
     ends p [] = refl
     ends p (y ∷ l) = either (lower y p) (λ e. rw (e, e)) (λ e. rw e (ends p l))
 
-    pub next-scan : (p : ℕ) (places : List Place) → (p ≡ virtualPit → ⊥) → let ring : ℕ → List ℕ = λ _. members places in next (record { lower = lower; ring = ring; pick = lowestOf lower }) p ≡ scan lower p places
-    unfolding next isEnd
-    next-scan p places h =
-        rw (ne-eqb p virtualPit h)
-        (ends p (members places) ∙ filtered p p (members places) (λ y k. k) ∙ scan-lowest p places)
+    -- the lowest of what is lower than p, or p: by a scan from p
+    pub lowest-scan : (p : ℕ) (places : List Place) → let low : ℕ → Bool = λ q. lower q p in
+        cond (not (any low (members places))) p (lowest lower (filter low (members places))) ≡ scan lower p places
+    lowest-scan p places = ends p (members places) ∙ filtered p p (members places) (λ y k. k) ∙ scan-lowest p places
+
+    assoc : (x a b : ℕ) → lowerOf lower (lowerOf lower x a) b ≡ lowerOf lower x (lowerOf lower a b)
+    assoc x a b = ap (λ (z : ℕ). lowerOf lower z b) (same x a) ∙ swap a x b ∙ same (lowerOf lower a b) x
+
+    -- what a scan starts from may be looked at after it
+    scan-out : (z x : ℕ) (l : List Place) → scan lower (lowerOf lower z x) l ≡ lowerOf lower z (scan lower x l)
+    unfolding scan
+    scan-out z x [] = refl
+    scan-out z x (y ∷ l) = go (y .taken) (scan-out z (lowerOf lower x (y .member)) l) (scan-out z x l)
+      where
+        go : (b : Bool) → scan lower (lowerOf lower z (lowerOf lower x (y .member))) l ≡ lowerOf lower z (scan lower (lowerOf lower x (y .member)) l)
+            → scan lower (lowerOf lower z x) l ≡ lowerOf lower z (scan lower x l)
+            → scan lower (cond b (lowerOf lower (lowerOf lower z x) (y .member)) (lowerOf lower z x)) l ≡ lowerOf lower z (scan lower (cond b (lowerOf lower x (y .member)) x) l)
+        go true i j = ap (λ (w : ℕ). scan lower w l) (assoc z x (y .member)) ∙ i
+        go false i j = j
+
+    scan-own : (x : ℕ) (l : List Place) → scan lower x l ≡ lowerOf lower x (scan lower x l)
+    scan-own x l = rw (o .irrefl x) at (scan-out x x l)
+
+    -- a scan that goes on from what another found: the lower of what each finds
+    pub scan-joins : (x : ℕ) (l m : List Place) → scan lower (scan lower x l) m ≡ lowerOf lower (scan lower x l) (scan lower x m)
+    scan-joins x l m =
+        let z = scan lower x l in
+        ap (λ (w : ℕ). scan lower w m) (scan-own x l ∙ same x z) ∙ scan-out z x m
+
+    -- what a scan finds is not above what it starts from
+    pub scan-low : (x : ℕ) (l : List Place) → lower x (scan lower x l) ≡ false
+    scan-low x l = ap (lower x) (scan-own x l) ∙ go (scan lower x l)
+      where
+        go : (w : ℕ) → lower x (lowerOf lower x w) ≡ false
+        go w = either (lower w x) (λ e. rw e (not-lower x x w (o .irrefl x) e)) (λ e. rw e (o .irrefl x))
 
   -- places that the scan cannot tell apart
   Alike : List Place → List Place → Type 0
@@ -110,11 +145,78 @@ module _ (lower : ℕ → ℕ → Bool) where
   corner true q r h x = rw (h refl)
   corner false q r h x = refl
 
-pub toward-strict : (upward : Bool) (pl : Plot) → StrictTotal (toward upward pl .lower)
-toward-strict true pl = reversed-strict (below-strict pl)
-toward-strict false pl = below-strict pl
+-- every member that is there has a property
+unfoldable pub AllIn : (ℕ → Type 0) → List Place → Type 0
+AllIn P [] = Unit {0}
+AllIn P (y ∷ l) = (y .taken ≡ true → P (y .member)) × AllIn P l
 
-module _ {pl : Plot} {p : ℕ} (post : PostOf pl p) where
+pub all-in : (P Q : ℕ → Type 0) → ((q : ℕ) → P q → Q q) → (l : List Place) → AllIn P l → AllIn Q l
+unfolding AllIn
+all-in P Q f [] a = tt
+all-in P Q f (y ∷ l) a = (λ h. f (y .member) (a .0 h), all-in P Q f l (a .1))
+
+-- so has what a scan finds
+pub scan-holds : (f : ℕ → ℕ → Bool) (P : ℕ → Type 0) (x : ℕ) (l : List Place) → P x → AllIn P l → P (scan f x l)
+unfolding scan AllIn
+scan-holds f P x [] h a = h
+scan-holds f P x (y ∷ l) h a = go (y .taken) (a .0) (λ m. scan-holds f P (y .member) l m (a .1)) (scan-holds f P x l h (a .1))
+  where
+    go : (b : Bool) → (b ≡ true → P (y .member)) → (P (y .member) → P (scan f (y .member) l)) → P (scan f x l)
+        → P (scan f (cond b (lowerOf f x (y .member)) x) l)
+    go true m i j = either (f (y .member) x) (λ e. rw e (i (m refl))) (λ e. rw e j)
+    go false m i j = j
+
+-- two orders that agree on what has it
+pub scan-agree : (f g : ℕ → ℕ → Bool) (P : ℕ → Type 0) → ((a b : ℕ) → P a → P b → f a b ≡ g a b) → (x : ℕ) (l : List Place) → P x → AllIn P l → scan f x l ≡ scan g x l
+unfolding scan AllIn
+scan-agree f g P agree x [] h a = refl
+scan-agree f g P agree x (y ∷ l) h a = go (y .taken) (a .0) (λ m. scan-agree f g P agree (y .member) l m (a .1)) (scan-agree f g P agree x l h (a .1))
+  where
+    go : (b : Bool) → (b ≡ true → P (y .member)) → (P (y .member) → scan f (y .member) l ≡ scan g (y .member) l) → scan f x l ≡ scan g x l
+        → scan f (cond b (lowerOf f x (y .member)) x) l ≡ scan g (cond b (lowerOf g x (y .member)) x) l
+    go true m i j = rw (agree (y .member) x (m refl) h) (either (g (y .member) x) (λ e. rw e (i (m refl))) (λ e. rw e j))
+    go false m i j = j
+
+pub toward-strict : (upward : Bool) (pl : Plot) → StrictTotal (directed upward (below pl))
+toward-strict upward pl = directed-strict upward (below-strict pl)
+
+-- the lowest by two orders that agree on a list
+module _ (f g : ℕ → ℕ → Bool) (P : ℕ → Type 0) (agree : (a b : ℕ) → P a → P b → f a b ≡ g a b) where
+  lowestOr-agree : (x : ℕ) (l : List ℕ) → P x → ((q : ℕ) → List·Memᴰ q l → P q) → lowestOr f x l ≡ lowestOr g x l
+  unfolding lowestOr
+  lowestOr-agree x [] h k = refl
+  lowestOr-agree x (y ∷ l) h k =
+      let m = k y (List·Memᴰ·head refl) in
+      let rest : (q : ℕ) → List·Memᴰ q l → P q = λ q n. k q (List·Memᴰ·tail n) in
+      rw (agree y x m h) (either (g y x) (λ e. rw e (lowestOr-agree y l m rest)) (λ e. rw e (lowestOr-agree x l h rest)))
+
+  lowest-agree : (l : List ℕ) → ((q : ℕ) → List·Memᴰ q l → P q) → lowest f l ≡ lowest g l
+  unfolding lowest
+  lowest-agree [] h = refl
+  lowest-agree (x ∷ l) h = lowestOr-agree x l (h x (List·Memᴰ·head refl)) (λ q m. h q (List·Memᴰ·tail m))
+
+-- next, by a scan in the order onward from the post, where the virtual pit is not among what is lower
+module _ (pl : Plot) (s : Spacings) (lower : ℕ → ℕ → Bool) (o : StrictTotal lower) (spaced : Spaced s) (p : ℕ) where
+  abbrev ahead : ℕ → ℕ → Bool
+  ahead = onward pl s lower p
+
+  pub next-scan : (places : List Place) → (p ≡ virtualPit → ⊥) → (List·Memᴰ virtualPit (filter (λ q. lower q p) (members places)) → ⊥)
+      → let ring : ℕ → List ℕ = λ _. members places in
+      next (record { lower = lower; ring = ring; pick = steepest pl s lower }) p ≡ scan ahead p places
+  unfolding next isEnd
+  next-scan places h pit =
+      let ahead-low : ℕ → Bool = λ q. ahead q p in
+      let low : ℕ → Bool = λ q. lower q p in
+      let same : low ≡ ahead-low = fun-ext (λ q. sym (onward-own pl s lower p o spaced q)) in
+      let l = filter (λ q. lower q p) (members places) in
+      rw (
+        ne-eqb p virtualPit h,
+        no-pit pl s lower p l pit,
+        lowest-agree (before pl s lower p) ahead (λ q. lower q p ≡ true) (onward-before pl s lower p) l (λ q m. filter-member (λ q. lower q p) (members places) q m .1),
+      )
+      (ap (λ (f : ℕ → Bool). cond (not (any f (members places))) p (lowest ahead (filter f (members places)))) same ∙ lowest-scan ahead (onward-strict pl s lower p o spaced) p places)
+
+module _ {pl : Plot} {p : ℕ} (post : PostOf pl p) (s : Spacings) (spaced : Spaced s) where
   abbrev t : Bool
   t = top pl.columns p
 
@@ -159,19 +261,24 @@ module _ {pl : Plot} {p : ℕ} (post : PostOf pl p) where
           ),
         )
 
-  pub up-is : next (up pl) p ≡ scan (up pl .lower) p (turn pl.columns p (bordersOf pl.rows pl.columns p) (cornersOf pl.rows pl.columns (fallsIn pl) p))
+  -- upward, or on no border
+  pub next-is : (upward : Bool) → (upward ≡ false → isBorder pl.rows pl.columns p ≡ false)
+      → next (toward pl s upward) p
+      ≡ scan (onward pl s (directed upward (below pl)) p) p (turn pl.columns p (bordersOf pl.rows pl.columns p) (cornersOf pl.rows pl.columns (fallsIn pl) p))
   unfolding next isEnd ringOf ring
-  up-is =
-      let o = reversed-strict (below-strict pl) in
+  next-is upward off =
+      let o = toward-strict upward pl in
       let falls = fallsIn pl in
-      next-scan (reversed (below pl)) o p (places pl.rows pl.columns falls p) (not-pit (post .valid .sides) (post .post))
-      ∙ turned (reversed (below pl)) falls (λ _. (not-below-pit pl))
+      next-scan pl s (directed upward (below pl)) o spaced p (places pl.rows pl.columns falls p) (not-pit (post .valid .sides) (post .post)) (no-pit-lower upward off)
+      ∙ turned (onward pl s (directed upward (below pl)) p) falls (pit-last upward off)
+    where
+      no-pit-lower : (upward : Bool) → (upward ≡ false → isBorder pl.rows pl.columns p ≡ false)
+          → List·Memᴰ virtualPit (filter (λ q. directed upward (below pl) q p) (ring pl.rows pl.columns (fallsIn pl) p)) → ⊥
+      no-pit-lower true off m = true≢false (sym (filter-member _ _ virtualPit m .1) ∙ not-below-pit pl p)
+      no-pit-lower false off m =
+          true≢false (sym (ring-pit (post .valid .sides) (fallsIn pl) p (post .post) .0 (filter-member _ _ virtualPit m .0)) ∙ off refl)
 
-  pub down-is : isBorder pl.rows pl.columns p ≡ false
-      → next (down pl) p ≡ scan (down pl .lower) p (turn pl.columns p (bordersOf pl.rows pl.columns p) (cornersOf pl.rows pl.columns (fallsIn pl) p))
-  unfolding next isEnd ringOf ring
-  down-is h =
-      let o = below-strict pl in
-      let falls = fallsIn pl in
-      next-scan (below pl) o p (places pl.rows pl.columns falls p) (not-pit (post .valid .sides) (post .post))
-      ∙ turned (below pl) falls (λ k. absurd (true≢false (sym k ∙ h)))
+      pit-last : (upward : Bool) → (upward ≡ false → isBorder pl.rows pl.columns p ≡ false)
+          → isBorder pl.rows pl.columns p ≡ true → (x : ℕ) → onward pl s (directed upward (below pl)) p virtualPit x ≡ false
+      pit-last true off b x = never-onward pl s (reversed (below pl)) p virtualPit x (not-below-pit pl p) (not-below-pit pl x)
+      pit-last false off b x = absurd (true≢false (sym b ∙ off refl))

@@ -1,3 +1,3 @@
--- The lowest of a post and its neighbours by a scan of the places round it, and by keys.
+-- Next by a scan of the places round a post, and by keys.
 pub mod Scan
 pub mod Keys

@@ -1,4 +1,4 @@
--- The lowest of a post and its neighbours, found by a scan of the places round it, in an order: the height order, or it reversed for the highest.
+-- The first of a post and its neighbours in an order, found by a scan of the places round it: the height order, it reversed, or the order by slopes.
 use Prim.Native.Nat.{ℕ, _+_, _-_}
 use mathlib.Core.Bool.{Bool, false, cond, not, _&&_}
 use mathlib.Core.List.{List, [], _∷_}

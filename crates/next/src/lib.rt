@@ -1,3 +1,3 @@
-// Next down and next up from a post: the lowest, or highest, of the posts round it.
+// Next down and next up from a post: the steepest of the posts round it.
 mod key;
 pub mod step;

@@ -10,6 +10,7 @@ use borrow.Author.Tests.{ltb-true, ltb-false}
 use Rattle.surface.specs.Lists.{listOf}
 use Rattle.surface.specs.Plot.{Plot, posts, virtualPit, Vertex}
 use Rattle.surface.specs.Lines.{Descent, isEnd, next, end, down, up, daleAt, hillAt, dalesOf, hillsOf}
+use Rattle.surface.specs.declared.Spacings.{Spacings}
 use Rattle.surface.proofs.General.Bools.{either}
 use Rattle.surface.proofs.General.ListOf.{length-listOf, getD-listOf, listOf-ext}
 use Rattle.surface.proofs.General.Stores.{stores-all}
@@ -51,24 +52,24 @@ module _ {n : ℕ} {d : Descent} (law : Falling n d) (fits : n ≤ virtualPit) w
   ends-are : listOf (pathEnd nexts) (length nexts) ≡ listOf (end d n) n
   ends-are = rw (length-listOf (next d) n) (listOf-ext (along nexts n) (end d n) n (λ p h. along-end n p (inl h)))
 
-module _ {pl : Plot} {dales₀ hills₀ dales hills : List ℕ} (lent : ForParts pl dales₀ hills₀) (f : AllFilled pl dales₀ hills₀ dales hills) where
-  dales-nexts : dales ≡ listOf (next (down pl)) (posts pl)
+module _ {pl : Plot} {s : Spacings} {dales₀ hills₀ dales hills : List ℕ} (lent : ForParts pl s dales₀ hills₀) (f : AllFilled pl s dales₀ hills₀ dales hills) where
+  dales-nexts : dales ≡ listOf (next (down pl s)) (posts pl)
   dales-nexts = f .downward ∙ stores-all _ (posts pl) dales₀ 0 (lent .dalesSize)
 
-  hills-nexts : hills ≡ listOf (next (up pl)) (posts pl)
+  hills-nexts : hills ≡ listOf (next (up pl s)) (posts pl)
   hills-nexts = f .upward ∙ stores-all _ (posts pl) hills₀ 0 (lent .hillsSize)
 
   pub dales-end : Ends dales
-  dales-end = rw dales-nexts (nexts-end (down-falling pl (lent .valid .sides)) (plot-fits (lent .valid .sides)))
+  dales-end = rw dales-nexts (nexts-end (down-falling pl (lent .valid .sides) s) (plot-fits (lent .valid .sides)))
 
   pub hills-end : Ends hills
-  hills-end = rw hills-nexts (nexts-end (up-falling pl (lent .valid .sides)) (plot-fits (lent .valid .sides)))
+  hills-end = rw hills-nexts (nexts-end (up-falling pl (lent .valid .sides) s) (plot-fits (lent .valid .sides)))
 
   -- the ends of their paths are the names of the dales, and of the hills
-  pub dales-named : listOf (pathEnd dales) (length dales) ≡ dalesOf pl
+  pub dales-named : listOf (pathEnd dales) (length dales) ≡ dalesOf pl s
   unfolding dalesOf daleAt
-  dales-named = rw dales-nexts (ends-are (down-falling pl (lent .valid .sides)) (plot-fits (lent .valid .sides)))
+  dales-named = rw dales-nexts (ends-are (down-falling pl (lent .valid .sides) s) (plot-fits (lent .valid .sides)))
 
-  pub hills-named : listOf (pathEnd hills) (length hills) ≡ hillsOf pl
+  pub hills-named : listOf (pathEnd hills) (length hills) ≡ hillsOf pl s
   unfolding hillsOf hillAt
-  hills-named = rw hills-nexts (ends-are (up-falling pl (lent .valid .sides)) (plot-fits (lent .valid .sides)))
+  hills-named = rw hills-nexts (ends-are (up-falling pl (lent .valid .sides) s) (plot-fits (lent .valid .sides)))

@@ -5,7 +5,7 @@ mod paths;
 
 use fill::fill_nexts;
 use limits::heights_verdict;
-use limits::lead_verdict;
+use limits::spaced_verdict;
 use paths::shorten;
 use settings::read_sheet;
 use surface::Answer;
@@ -13,23 +13,26 @@ use surface::DOWN;
 use surface::Grid;
 use surface::HIGHEST_RULE;
 use surface::Sheet;
+use surface::Spacings;
 use surface::UP;
 ghost use mathlib.Core.Path.{_≡_};
+ghost use Rattle.surface.specs.Lines.{spacings};
 ghost use Rattle.surface.specs.Refusals.{partsVerdict};
 ghost use Rattle.surface.specs.Calls.{plotSaid, plotBy, partsAnswer, partsDales, partsHills};
 
-// What the call answers: rows 13, 14 and 1 to 4 of the table.
+// What the call answers: rows 13, 14, 1, 15, 2, 3 and 4 of the table.
 fn verdict(
     said: Sheet,
     rows: u32,
     columns: u32,
+    spacings: Spacings,
     heights: &[i32],
     dales: &[u16],
     hills: &[u16],
 ) -> Answer
-    ensures { λ r. ⌜ r ≡ partsVerdict (plotSaid said rows columns (now (heights .entry))) (now (dales .entry)) (now (hills .entry)) ⌝ }
+    ensures { λ r. ⌜ r ≡ partsVerdict (plotSaid said rows columns (now (heights .entry))) spacings (now (dales .entry)) (now (hills .entry)) ⌝ }
 {
-    let lead = lead_verdict(said, rows, columns, heights);
+    let lead = spaced_verdict(said, rows, columns, spacings, heights);
     if lead.code != 0 {
         return lead;
     }
@@ -45,16 +48,19 @@ pub fn dales_and_hills(
     sheet: &[u8],
     rows: u32,
     columns: u32,
+    east: u32,
+    south: u32,
     heights: &[i32],
     dales: &mut [u16],
     hills: &mut [u16],
 ) -> Answer
-    ensures { λ r. ⌜ r ≡ partsAnswer (plotBy (now (sheet .entry)) rows columns (now (heights .entry))) (now (dales .entry)) (now (hills .entry)) ⌝ }
-    ensures { λ _. ⌜ now (dales .exit) ≡ partsDales (plotBy (now (sheet .entry)) rows columns (now (heights .entry))) (now (dales .entry)) (now (hills .entry)) ⌝ }
-    ensures { λ _. ⌜ now (hills .exit) ≡ partsHills (plotBy (now (sheet .entry)) rows columns (now (heights .entry))) (now (dales .entry)) (now (hills .entry)) ⌝ }
+    ensures { λ r. ⌜ r ≡ partsAnswer (plotBy (now (sheet .entry)) rows columns (now (heights .entry))) (spacings east south) (now (dales .entry)) (now (hills .entry)) ⌝ }
+    ensures { λ _. ⌜ now (dales .exit) ≡ partsDales (plotBy (now (sheet .entry)) rows columns (now (heights .entry))) (spacings east south) (now (dales .entry)) (now (hills .entry)) ⌝ }
+    ensures { λ _. ⌜ now (hills .exit) ≡ partsHills (plotBy (now (sheet .entry)) rows columns (now (heights .entry))) (spacings east south) (now (dales .entry)) (now (hills .entry)) ⌝ }
 {
     let said = read_sheet(sheet);
-    let answer = verdict(said, rows, columns, heights, dales, hills);
+    let spacings = Spacings { east, south };
+    let answer = verdict(said, rows, columns, spacings, heights, dales, hills);
     if answer.code != 0 {
         return answer;
     }
@@ -63,7 +69,7 @@ pub fn dales_and_hills(
         columns: columns as usize,
         highest: said.rule == HIGHEST_RULE,
     };
-    fill_nexts(heights, grid, dales, hills);
+    fill_nexts(heights, grid, spacings, dales, hills);
     shorten(dales, grid, DOWN);
     shorten(hills, grid, UP);
     answer

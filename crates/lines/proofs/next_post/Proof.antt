@@ -4,14 +4,15 @@ use mathlib.Core.Path.{_≡_, sym, _∙_, ap}
 use mathlib.Core.Logic.{inl}
 use borrow.Author.Tests.{ne-eqb}
 use Rattle.surface.specs.Plot.{Plot, PostOf}
+use Rattle.surface.specs.Lines.{Spaced}
 use Rattle.surface.specs.Refusals.{nextVerdict}
 use Rattle.surface.specs.Calls.{plotSaid}
 use Rattle.surface.proofs.AnyOrder.Grid.{vertex-low}
 use Rattle.surface.proofs.AnyOrder.Walks.{next-vertex}
 use Rattle.surface.proofs.OfPlots.Instance.{toward-falling}
 use Rattle.surface.proofs.OfCalls.Verdicts.{code}
-use Rattle.surface.proofs.OfCalls.Accepted.{plain, plot-ruled}
-use Rattle.lines.proofs.Called.{post-sheet, post-valid, all-passed}
+use Rattle.surface.proofs.OfCalls.Accepted.{plain, plot-ruled, next-valid}
+use Rattle.lines.proofs.Called.{post-sheet, all-passed}
 use borrow.Author.Needs.{needs}
 use Rattle.lines.proofs.next_post.Statement.{statement}
 use Rattle.lines.proofs.next_post.Tie as tie
@@ -19,18 +20,19 @@ use Rattle.lines.proofs.next_post.Tie as tie
 abbrev asked : tie.Else1 → Plot
 asked c = let a = c .before .before .before .args in plotSaid (a .said) (a .rows) (a .columns) (a .heights .now)
 
-passed : (c : tie.Else1) → nextVerdict (asked c) (c .before .before .before .args .post) .code ≡ 0
+passed : (c : tie.Else1) → nextVerdict (asked c) (c .before .before .before .args .spacings) (c .before .before .before .args .post) .code ≡ 0
 passed c = sym (code (c .before .before .post-verdict .ensures)) ∙ c .if1 .left
 
 -- the plot of an accepted call
 same : (c : tie.Else1) → asked c ≡ plain (asked c)
-same c = plot-ruled (asked c) (post-sheet (asked c) _ (passed c))
+same c = plot-ruled (asked c) (post-sheet (asked c) _ _ (passed c))
 
-served : (c : tie.Else1) → nextVerdict (plain (asked c)) (c .before .before .before .args .post) .code ≡ 0
-served c = sym (ap (λ (pl : Plot). nextVerdict pl (c .before .before .before .args .post) .code) (same c)) ∙ passed c
+served : (c : tie.Else1) → let a = c .before .before .before .args in nextVerdict (plain (asked c)) (a .spacings) (a .post) .code ≡ 0
+served c =
+    let a = c .before .before .before .args in sym (ap (λ (pl : Plot). nextVerdict pl (a .spacings) (a .post) .code) (same c)) ∙ passed c
 
-post : (c : tie.Else1) → PostOf (plain (asked c)) (c .before .before .before .args .post)
-post c = post-valid (plain (asked c)) _ (served c)
+post : (c : tie.Else1) → let a = c .before .before .before .args in PostOf (plain (asked c)) (a .post) × Spaced (a .spacings)
+post c = next-valid (plain (asked c)) _ _ (served c)
 
 returns : tie.Need-returns
 returns c = rw (← (c .before .before .post-verdict .ensures), ne-eqb _ 0 (c .if1 .taken))
@@ -38,16 +40,16 @@ returns c = rw (← (c .before .before .post-verdict .ensures), ne-eqb _ 0 (c .i
 next-at-requires : tie.Need-next-at-requires
 next-at-requires c κs = post (c .before)
 
-cast-t12 : tie.Need-cast-t12
-cast-t12 c =
+cast-t13 : tie.Need-cast-t13
+cast-t13 c =
     let e = c .before .before in
-    let valid = post e in
+    let valid = post e .0 in
     let a = e .before .before .before .args in
-    let law = toward-falling (plain (asked e)) (valid .valid .sides) (a .up) in
+    let law = toward-falling (plain (asked e)) (valid .valid .sides) (a .spacings) (a .up) in
     omega (arith, c .next-at .ensures, vertex-low (valid .valid .sides) (next-vertex law (a .post) (inl (valid .post))))
 
 returns-2 : tie.Need-returns-2
-returns-2 c = let e = c .before .before in rw (same e) (rw (all-passed (plain (asked e)) _ (served e), c .next-at .ensures))
+returns-2 c = let e = c .before .before in rw (same e) (rw (all-passed (plain (asked e)) _ _ (served e), c .next-at .ensures))
 
 pub next-post-spec : {M : Type 1} → statement M
-next-post-spec = tie.close (tie.spec (search needs) returns next-at-requires cast-t12 returns-2)
+next-post-spec = tie.close (tie.spec (search needs) returns next-at-requires cast-t13 returns-2)

@@ -1,9 +1,11 @@
 -- A refusal is handed on, and the ends of the paths that the next posts make are the names asked for.
 use mathlib.Core.Path.{_≡_, sym, _∙_, ap}
 use Rattle.surface.specs.Plot.{Plot}
+use Rattle.surface.specs.Lines.{spacings}
 use Rattle.surface.specs.Refusals.{partsVerdict}
 use Rattle.surface.specs.Calls.{plotSaid, partsAnswer}
 use Rattle.surface.specs.declared.Answer.{Answer}
+use Rattle.surface.specs.declared.Spacings.{Spacings}
 use Rattle.parts.specs.Filled.{ForParts}
 use Rattle.parts.proofs.Filled.{dales-long, hills-long}
 use Rattle.parts.proofs.Descents.{dales-end, hills-end, dales-named, hills-named}
@@ -21,22 +23,25 @@ start v = v .before .before .before .before .before .before .before
 abbrev asked : tie.After-verdict → Plot
 asked v = let a = start v .args in plotSaid (v .before .before .before .read-sheet .result) (a .rows) (a .columns) (a .heights .now)
 
+abbrev spaced : tie.After-verdict → Spacings
+spaced v = let a = start v .args in spacings (a .east) (a .south)
+
 abbrev first : tie.After-verdict → Plot → Answer
-first v pl = let a = start v .args in partsVerdict pl (a .dales .now) (a .hills .now)
+first v pl = let a = start v .args in partsVerdict pl (spaced v) (a .dales .now) (a .hills .now)
 
 -- what its acceptance says: its sheet is not bad
 passed : (c : tie.Else1) → let v = c .before .before in first v (asked v) .code ≡ 0
 passed c = sym (code (c .before .before .verdict .ensures)) ∙ c .if1 .left
 
 same : (c : tie.Else1) → let v = c .before .before in asked v ≡ plain (asked v)
-same c = plot-ruled _ (parts-sheet _ _ _ (passed c))
+same c = plot-ruled _ (parts-sheet _ _ _ _ (passed c))
 
 served : (c : tie.Else1) → let v = c .before .before in first v (plain (asked v)) .code ≡ 0
 served c = let v = c .before .before in sym (ap (λ (pl : Plot). first v pl .code) (same c)) ∙ passed c
 
 -- what an accepted call was lent
-lent : (c : tie.Else1) → let v = c .before .before in ForParts (plain (asked v)) (start v .args .dales .now) (start v .args .hills .now)
-lent c = parts-valid _ _ _ (served c)
+lent : (c : tie.Else1) → let v = c .before .before in ForParts (plain (asked v)) (spaced v) (start v .args .dales .now) (start v .args .hills .now)
+lent c = parts-valid _ _ _ _ (served c)
 
 -- acceptance, from the filled lists
 abbrev accepted : tie.After-fill-nexts → tie.Else1
@@ -46,7 +51,7 @@ returns : tie.Need-returns
 unfolding partsAnswer
 returns c =
     let v = c .before .before in
-    let k = parts-kept _ _ _ (λ e. c .if1 .taken (code (v .verdict .ensures) ∙ e)) in
+    let k = parts-kept _ _ _ _ (λ e. c .if1 .taken (code (v .verdict .ensures) ∙ e)) in
     rw (← (v .before .before .before .read-sheet .ensures)) (v .verdict .ensures, (k .0, k .1))
 
 fill-nexts-requires : tie.Need-fill-nexts-requires
@@ -74,7 +79,7 @@ returns-2 c =
     let f = d .before .before .before .before .before .before in
     let a = accepted f in
     let v = a .before .before in
-    let k = parts-filled _ _ _ (served a) in
+    let k = parts-filled _ _ _ _ (served a) in
     rw (← (v .before .before .before .read-sheet .ensures)) (
       v .verdict .ensures,
       rw (same a) (

@@ -2,9 +2,9 @@
 use mathlib.Core.Path.{_≡_, sym, _∙_}
 use native.Mathlib.Omega.{arith}
 use Rattle.surface.specs.Plot.{Plot}
-use Rattle.surface.specs.Refusals.{verdict, leading}
+use Rattle.surface.specs.Refusals.{verdict, leadingSpaced}
 use Rattle.surface.specs.Calls.{plotSaid}
-use Rattle.surface.proofs.OfCalls.Accepted.{led-sized}
+use Rattle.surface.proofs.OfCalls.Accepted.{spaced-sized}
 use Rattle.surface.proofs.OfCalls.Verdicts.{code}
 use Rattle.parts.proofs.Outcome.{size-refused, lists-refused, lists-passed}
 use borrow.Author.Needs.{needs}
@@ -18,22 +18,22 @@ abbrev asked : tie.Else1 → Plot
 asked c = let a = start c .args in plotSaid (a .said) (a .rows) (a .columns) (a .heights .now)
 
 -- the rows that lead pass
-sized : (c : tie.Else1) → verdict (leading (asked c)) .code ≡ 0
-sized c = sym (code (c .before .before .lead-verdict .ensures)) ∙ c .if1 .left
+sized : (c : tie.Else1) → verdict (leadingSpaced (asked c) (start c .args .spacings)) .code ≡ 0
+sized c = sym (code (c .before .before .spaced-verdict .ensures)) ∙ c .if1 .left
 
 returns : tie.Need-returns
 returns c =
-    let e = c .before .before .lead-verdict .ensures in
-    e ∙ sym (size-refused _ _ _ (λ z. c .if1 .taken (code e ∙ z)))
+    let e = c .before .before .spaced-verdict .ensures in
+    e ∙ sym (size-refused _ _ _ _ (λ z. c .if1 .taken (code e ∙ z)))
 
 returns-2 : tie.Need-returns-2
-returns-2 c = sym (lists-refused (asked (c .before)) _ _ (sized (c .before)) (c .if2 .taken))
+returns-2 c = sym (lists-refused (asked (c .before)) _ _ _ (sized (c .before)) (c .if2 .taken))
 
 heights-verdict-requires : tie.Need-heights-verdict-requires
-heights-verdict-requires c κs = let k = led-sized (asked (c .before)) (sized (c .before)) in omega (arith, k .0, k .1)
+heights-verdict-requires c κs = let k = spaced-sized (asked (c .before)) (start (c .before) .args .spacings) (sized (c .before)) in omega (arith, k .0, k .1)
 
 returns-3 : tie.Need-returns-3
-returns-3 c = c .heights-verdict .ensures ∙ sym (lists-passed (asked (c .before .before)) _ _ (sized (c .before .before)) (c .before .if2 .left))
+returns-3 c = c .heights-verdict .ensures ∙ sym (lists-passed (asked (c .before .before)) _ _ _ (sized (c .before .before)) (c .before .if2 .left))
 
 pub verdict-spec : {M : Type 1} → statement M
 verdict-spec = tie.close (tie.spec (search needs) returns returns-2 heights-verdict-requires returns-3)

@@ -17,17 +17,17 @@ use Rattle.lines.proofs.line.write_entries.Statement.{statement}
 use Rattle.lines.proofs.line.write_entries.Tie as tie
 
 abbrev Inv-loop : tie.InvT-loop
-Inv-loop heights grid p line₀ at₀ i₀ line at i =
-    Along (plotOf grid heights) at₀ at i × (sets line i (path (plotOf grid heights) at) ≡ sets line₀ 1 (path (plotOf grid heights) at₀))
+Inv-loop heights grid spacings p line₀ at₀ i₀ line at i =
+    Along (plotOf grid heights) spacings at₀ at i × (sets line i (path (plotOf grid heights) spacings at) ≡ sets line₀ 1 (path (plotOf grid heights) spacings at₀))
 
 abbrev μ-loop : tie.MeasureT-loop
-μ-loop heights grid p line₀ at₀ i₀ line at i = rank (toward (at .up) (plotOf grid heights) .lower) (posts (plotOf grid heights)) (at .post)
+μ-loop heights grid spacings p line₀ at₀ i₀ line at i = rank (toward (plotOf grid heights) spacings (at .up) .lower) (posts (plotOf grid heights)) (at .post)
 
 -- the step went to another post
 moved : (c : tie.Else1 Inv-loop μ-loop)
     → let l = c .before .before .before in
     let a = l .before .before .args in
-    next (toward (l .loop .at .up) (plotOf (a .grid) (a .heights .now))) (l .loop .at .post) ≡ l .loop .at .post → ⊥
+    next (toward (plotOf (a .grid) (a .heights .now)) (a .spacings) (l .loop .at .up)) (l .loop .at .post) ≡ l .loop .at .post → ⊥
 moved c e = c .if1 .left (ap (λ (w : Walk). w .post) (c .before .before .next .ensures) ∙ e)
 
 -- the list keeps its length, and has an entry for the next post, which fits it
@@ -35,7 +35,7 @@ kept : (l : tie.At-loop Inv-loop μ-loop) → length (l .loop .line) ≡ length 
 kept l =
     let a = l .before .before .args in
     let pl = plotOf (a .grid) (a .heights .now) in
-    sets-length (l .loop .line) (set (a .line .now) 0 (a .p)) (l .loop .i) 1 (path pl (l .loop .at)) (path pl (a .from)) (l .loop .inv .1)
+    sets-length (l .loop .line) (set (a .line .now) 0 (a .p)) (l .loop .i) 1 (path pl (a .spacings) (l .loop .at)) (path pl (a .spacings) (a .from)) (l .loop .inv .1)
     ∙ length-set (a .line .now) 0 (a .p)
 
 room : (l : tie.At-loop Inv-loop μ-loop) → (l .loop .i < length (l .loop .line)) × (l .loop .i ≤ maxPosts + 1)

@@ -7,8 +7,7 @@ use mathlib.Core.Bool.{Bool, not, _&&_}
 use mathlib.Core.List.{_++_}
 use mir.Val.{boolByte}
 use lib.ListN.{length, getD}
-use Rattle.surface.specs.Plot.{plotOf}
-use Rattle.surface.specs.Lines.{toward}
+use Rattle.surface.specs.Plot.{plotOf, below, directed}
 use Rattle.post.specs.Rings.{held}
 use Rattle.lines.proofs.Running.{Seek, seek-none, seek-more, seek-found, seek-end, getD-front}
 use Rattle.lines.proofs.Ringed.{long, some, mixed, twice-vertex}
@@ -18,7 +17,7 @@ use Rattle.lines.proofs.run.run_at.Tie as tie
 
 abbrev Inv-loop : tie.InvT-loop
 Inv-loop heights grid up p ring run len before₀ left₀ i₀ before left i =
-    (i ≤ len) × Seek (λ q. toward up (plotOf grid heights) .lower q p) (held ring) run i before left
+    (i ≤ len) × Seek (λ q. directed up (below (plotOf grid heights)) q p) (held ring) run i before left
 
 abbrev μ-loop : tie.MeasureT-loop
 μ-loop heights grid up p ring run len before₀ left₀ i₀ before left i = len - i
@@ -30,7 +29,7 @@ inside c = omega (arith, long (c .before .before .before .before .pre), c .loop-
 side : (c : tie.After-is-lower2 Inv-loop μ-loop)
     → let a = c .before .before .before .before .before .before .args in
     let q = getD (held (a .ring)) (c .before .before .before .loop .i) 0 in
-    c .is-lower2 .result ≡ toward (a .up) (plotOf (a .grid) (a .heights .now)) .lower q (a .p)
+    c .is-lower2 .result ≡ directed (a .up) (below (plotOf (a .grid) (a .heights .now))) q (a .p)
 side c =
     let r = held (c .before .before .before .before .before .before .args .ring) in
     c .is-lower2 .ensures ∙ rw (c .before .member-at2 .ensures, getD-front r r (c .before .before .before .loop .i) (inside (c .before .before)))
@@ -38,7 +37,7 @@ side c =
 more : (c : tie.Else1 Inv-loop μ-loop)
     → let l = c .before .before .before .before in
     let a = l .before .before .before .args in
-    let low : ℕ → Bool = λ q. toward (a .up) (plotOf (a .grid) (a .heights .now)) .lower q (a .p) in
+    let low : ℕ → Bool = λ q. directed (a .up) (below (plotOf (a .grid) (a .heights .now))) q (a .p) in
     let starts : Bool = low (getD (held (a .ring)) (l .loop .i) 0) && not (l .loop .before) in
     Seek low (held (a .ring)) (a .run) (l .loop .i + 1) (low (getD (held (a .ring)) (l .loop .i) 0)) (l .loop .left - boolByte starts)
     × (boolByte starts ≤ l .loop .left)

@@ -11,16 +11,16 @@ use Rattle.lines.proofs.walk.entries_of.Statement.{statement}
 use Rattle.lines.proofs.walk.entries_of.Tie as tie
 
 abbrev Inv-loop : tie.InvT-loop
-Inv-loop heights grid at₀ entries₀ at entries = Along (plotOf grid heights) at₀ at entries
+Inv-loop heights grid spacings at₀ entries₀ at entries = Along (plotOf grid heights) spacings at₀ at entries
 
 abbrev μ-loop : tie.MeasureT-loop
-μ-loop heights grid at₀ entries₀ at entries = rank (toward (at .up) (plotOf grid heights) .lower) (posts (plotOf grid heights)) (at .post)
+μ-loop heights grid spacings at₀ entries₀ at entries = rank (toward (plotOf grid heights) spacings (at .up) .lower) (posts (plotOf grid heights)) (at .post)
 
 -- the step went to another post
 moved : (c : tie.Else1 Inv-loop μ-loop)
     → let l = c .before .before .before in
     let a = l .before .args in
-    next (toward (l .loop .at .up) (plotOf (a .grid) (a .heights .now))) (l .loop .at .post) ≡ l .loop .at .post → ⊥
+    next (toward (plotOf (a .grid) (a .heights .now)) (a .spacings) (l .loop .at .up)) (l .loop .at .post) ≡ l .loop .at .post → ⊥
 moved c e = c .if1 .left (ap (λ (w : Walk). w .post) (c .before .before .next .ensures) ∙ e)
 
 loop-holds : tie.Need-loop-holds Inv-loop μ-loop

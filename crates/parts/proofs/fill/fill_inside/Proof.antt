@@ -2,25 +2,26 @@
 use Prim.Native.Nat.{_+_, _-_, _≤_}
 use native.Mathlib.Omega.{arith}
 use mathlib.Core.Path.{_≡_}
-use mathlib.Core.Bool.{false}
+use mathlib.Core.Bool.{true, false}
 use Rattle.surface.specs.Plot.{plotOf, row, isOdd, PostOf}
 use Rattle.surface.specs.Edges.{isBorder}
+use Rattle.surface.specs.Lines.{Spaced}
 use Rattle.parts.specs.Filled.{ForParts, BothFilled}
 use Rattle.parts.proofs.Filled.{next-fits, filled-none, filled-more, filled-lists, dales-long, hills-long}
 use Rattle.parts.proofs.fill.fill_inside.Statement.{statement}
 use Rattle.parts.proofs.fill.fill_inside.Tie as tie
 
 abbrev Inv-loop : tie.InvT-loop
-Inv-loop heights grid from n odd dales₀ hills₀ i₀ dales hills i = (i ≤ n) × BothFilled (plotOf grid heights) from i dales₀ hills₀ dales hills
+Inv-loop heights grid spacings from n odd even highest dales₀ hills₀ i₀ dales hills i = (i ≤ n) × BothFilled (plotOf grid heights) spacings from i dales₀ hills₀ dales hills
 
 abbrev μ-loop : tie.MeasureT-loop
-μ-loop heights grid from n odd dales₀ hills₀ i₀ dales hills i = n - i
+μ-loop heights grid spacings from n odd even highest dales₀ hills₀ i₀ dales hills i = n - i
 
 -- the function's entry, from the loop's head, and the lists as they stand there
 abbrev start : tie.At-loop Inv-loop μ-loop → tie.Start Inv-loop μ-loop
 start l = l .before .before .before
 
-lent : (l : tie.At-loop Inv-loop μ-loop) → ForParts (plotOf (start l .args .grid) (start l .args .heights .now)) (l .loop .dales) (l .loop .hills)
+lent : (l : tie.At-loop Inv-loop μ-loop) → ForParts (plotOf (start l .args .grid) (start l .args .heights .now)) (start l .args .spacings) (l .loop .dales) (l .loop .hills)
 lent l = filled-lists (l .loop .inv .1) (start l .pre .0 .0)
 
 -- a turn's post
@@ -32,10 +33,16 @@ inside : (c : tie.In-loop Inv-loop μ-loop)
     PostOf (plotOf (a .grid) (a .heights .now)) (a .from + c .before .loop .i)
     × (isBorder (a .grid .rows) (a .grid .columns) (a .from + c .before .loop .i) ≡ false)
     × (a .odd ≡ isOdd (row (a .grid .columns) (a .from + c .before .loop .i)))
-inside c = let k = start (c .before) .pre .1 (c .before .loop .i) (c .loop-test .taken) in (post c, k .0, k .1)
+    × Spaced (a .spacings)
+    × (a .highest ≡ a .grid .highest)
+    × (a .even ≡ true → a .spacings .east ≡ a .spacings .south)
+inside c =
+    let p = start (c .before) .pre in
+    let k = p .1 .1 (c .before .loop .i) (c .loop-test .taken) in
+    (post c, k .0, k .1, lent (c .before) .spaced, p .1 .0 .0, p .1 .0 .1)
 
 loop-holds : tie.Need-loop-holds Inv-loop μ-loop
-loop-holds c = (omega arith, filled-none _ _ _ _)
+loop-holds c = (omega arith, filled-none _ _ _ _ _)
 
 add-p : tie.Need-add-p Inv-loop μ-loop
 add-p c = omega (arith, post c .post, post c .valid .sides)
@@ -53,7 +60,7 @@ turn : (c : tie.After-next-inside2 Inv-loop μ-loop)
 turn c = post (c .before .before)
 
 cast-dales : tie.Need-cast-dales Inv-loop μ-loop
-cast-dales c = omega (arith, c .before .next-inside .ensures, next-fits (turn c))
+cast-dales c = omega (arith, c .before .next-inside .ensures, next-fits (turn c) (start (c .before .before .before) .args .spacings))
 
 mul-dales : tie.Need-mul-dales Inv-loop μ-loop
 mul-dales c = omega (arith, turn c .post, turn c .valid .sides)
@@ -62,7 +69,7 @@ slice-write-dales : tie.Need-slice-write-dales Inv-loop μ-loop
 slice-write-dales c = omega (arith, turn c .post, lent (c .before .before .before) .dalesSize)
 
 cast-hills : tie.Need-cast-hills Inv-loop μ-loop
-cast-hills c = omega (arith, c .next-inside2 .ensures, next-fits (turn c))
+cast-hills c = omega (arith, c .next-inside2 .ensures, next-fits (turn c) (start (c .before .before .before) .args .spacings))
 
 mul-hills : tie.Need-mul-hills Inv-loop μ-loop
 mul-hills c = omega (arith, turn c .post, turn c .valid .sides)

@@ -15,7 +15,8 @@ next-at-requires : tie.Need-next-at-requires
 unfolding virtualPit
 next-at-requires c κs =
     let s = c .before in
-    record { valid = s .pre .valid; post = ⊎-elim (λ h. h) (λ (e : s .args .self .post ≡ virtualPit). absurd (c .if1 .left e)) (s .pre .vertex) }
+    let post = ⊎-elim (λ h. h) (λ (e : s .args .self .post ≡ virtualPit). absurd (c .if1 .left e)) (s .pre .vertex) in
+    (record { valid = s .pre .valid; post = post }, s .pre .spaced)
 
 returns-2 : tie.Need-returns-2
 returns-2 c = ap (λ (p : ℕ). record { post = p; up = c .before .before .args .self .up }) (c .next-at .ensures)

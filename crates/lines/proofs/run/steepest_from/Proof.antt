@@ -1,4 +1,4 @@
--- The loop's invariant: the lowest of what was found so far and of the run's members from place j on is the run's lowest.
+-- The loop's invariant: the first of what was found so far and of the run's members from place j on is the run's steepest.
 use native.Mathlib.Omega.{arith}
 use mathlib.Core.Path.{_≡_, sym, _∙_}
 use Prim.Native.Nat.{_+_, _-_, _≤_, _<_}
@@ -7,26 +7,29 @@ use mathlib.Core.Bool.{Bool}
 use mathlib.Core.List.{_++_}
 use borrow.Author.Tests.{not-true, not-false}
 use lib.ListN.{length, getD}
-use Rattle.surface.specs.Plot.{plotOf, posts, Vertex}
+use Rattle.surface.specs.Plot.{plotOf, posts, Vertex, below, directed}
 use Rattle.surface.specs.Edges.{lowestOr}
 use Rattle.surface.specs.Lines.{toward}
 use Rattle.post.specs.Rings.{held}
-use Rattle.lines.specs.Runs.{runFrom, lowestFrom}
+use Rattle.lines.specs.Slopes.{ahead}
+use Rattle.lines.specs.Runs.{runFrom, pickFrom}
 use Rattle.lines.proofs.Running.{while-stop, while-end, getD-front, low-first, low-more, low-none}
+use Rattle.lines.proofs.Sloping.{steepest-first}
 use Rattle.lines.proofs.Ringed.{chosen-vertex, long, twice-long, twice-vertex}
-use Rattle.lines.proofs.run.lowest_from.Statement.{statement}
-use Rattle.lines.proofs.run.lowest_from.Tie as tie
+use Rattle.lines.proofs.run.steepest_from.Statement.{statement}
+use Rattle.lines.proofs.run.steepest_from.Tie as tie
 
 abbrev Inv-loop : tie.InvT-loop
-Inv-loop heights grid up p ring i twice best₀ j₀ best j =
-    let lower = toward up (plotOf grid heights) .lower in
+Inv-loop heights grid spacings up p ring i twice best₀ j₀ best j =
+    let lower = directed up (below (plotOf grid heights)) in
     (i < j)
     × (j ≤ twice)
-    × (lowestOr lower best (runFrom (λ q. lower q p) (held ring) j) ≡ lowestFrom (toward up (plotOf grid heights)) p (held ring) i)
+    × (lowestOr (ahead (plotOf grid heights) spacings lower p) best (runFrom (λ q. lower q p) (held ring) j)
+    ≡ pickFrom (toward (plotOf grid heights) spacings up) p (held ring) i)
     × Vertex (posts (plotOf grid heights)) best
 
 abbrev μ-loop : tie.MeasureT-loop
-μ-loop heights grid up p ring i twice best₀ j₀ best j = twice - j
+μ-loop heights grid spacings up p ring i twice best₀ j₀ best j = twice - j
 
 -- the place is one of the ring gone round twice, its member is a vertex, and it was compared with the post
 inside : (c : tie.In-loop Inv-loop μ-loop) → let r = held (c .before .before .before .before .args .ring) in c .before .loop .j < length (r ++ r)
@@ -41,7 +44,7 @@ member c =
 low : {b : Bool} (c : tie.After-is-lower Inv-loop μ-loop) → c .is-lower .result ≡ b
     → let a = c .before .before .before .before .before .before .args in
     let q = getD (held (a .ring) ++ held (a .ring)) (c .before .before .before .loop .j) 0 in
-    toward (a .up) (plotOf (a .grid) (a .heights .now)) .lower q (a .p) ≡ b
+    directed (a .up) (below (plotOf (a .grid) (a .heights .now))) q (a .p) ≡ b
 low c e = rw (← (c .before .member-at2 .ensures)) (sym (c .is-lower .ensures) ∙ e)
 
 add-twice : tie.Need-add-twice Inv-loop μ-loop
@@ -61,8 +64,12 @@ loop-holds c =
     let r = held (s .args .ring) in
     let h : i < length (r ++ r) = omega (arith, twice-long z, s .pre .place) in
     let e : getD (r ++ r) i 0 ≡ getD r i 0 = getD-front r r i (omega (arith, long z, s .pre .place)) in
-    rw (c .member-at .ensures)
-    (omega arith, omega (arith, s .pre .place), low-first _ _ (r ++ r) i h (rw e (s .pre .lower)), twice-vertex z i (omega (arith, s .pre .place)))
+    rw (c .member-at .ensures) (
+      omega arith,
+      omega (arith, s .pre .place),
+      low-first _ _ (r ++ r) i h (rw e (s .pre .lower)) ∙ sym (steepest-first _ _ _ (s .args .p) _),
+      twice-vertex z i (omega (arith, s .pre .place)),
+    )
 
 member-at-requires-2 : tie.Need-member-at-requires-2 Inv-loop μ-loop
 member-at-requires-2 c κs =
@@ -81,11 +88,11 @@ returns c =
     low-none _ _ _ (l .loop .best) (l .loop .j) (while-stop _ _ (l .loop .j) (inside (c .before .before .before)) (low (c .before) (not-true _ (c .if1 .taken))))
     ∙ l .loop .inv .2
 
-lower-of-requires : tie.Need-lower-of-requires Inv-loop μ-loop
-lower-of-requires c κs =
+first-of-requires : tie.Need-first-of-requires Inv-loop μ-loop
+first-of-requires c κs =
     let at-loop = c .before .before .before .before in
     let at-start = at-loop .before .before .before in
-    (at-start .pre .saddle .post .valid, at-loop .loop .inv .3, member (c .before .before))
+    (at-start .pre .saddle .post, at-loop .loop .inv .3, member (c .before .before), at-start .pre .spaced)
 
 add-j-2 : tie.Need-add-j-2 Inv-loop μ-loop
 add-j-2 c =
@@ -100,13 +107,13 @@ loop-again c =
     let at-start = at-loop .before .before .before in
     let l = at-loop .loop in
     let a = at-start .args in
-    let lower = toward (a .up) (plotOf (a .grid) (a .heights .now)) .lower in
-    rw (c .lower-of .ensures) (
+    let pl = plotOf (a .grid) (a .heights .now) in
+    rw (c .first-of .ensures) (
       omega arith,
       omega arith,
       rw (at-member-at2 .member-at2 .ensures)
           (low-more _ _ _ (l .best) (l .j) (inside at-in-loop) (low (c .before .before) (not-false _ (c .before .if1 .left))) ∙ l .inv .2),
-      chosen-vertex (lower (at-member-at2 .member-at2 .result) (l .best)) (l .inv .3) (member at-member-at2),
+      chosen-vertex (ahead pl (a .spacings) (directed (a .up) (below pl)) (a .p) (at-member-at2 .member-at2 .result) (l .best)) (l .inv .3) (member at-member-at2),
     )
 
 returns-2 : tie.Need-returns-2 Inv-loop μ-loop
@@ -115,8 +122,8 @@ returns-2 c =
     let l = c .before .loop in
     low-none _ _ _ (l .best) (l .j) (while-end _ _ (l .j) (omega (arith, twice-long (at-start .pre .saddle)))) ∙ l .inv .2
 
-pub lowest-from-spec : {M : Type 1} → statement M
-lowest-from-spec =
+pub steepest-from-spec : {M : Type 1} → statement M
+steepest-from-spec =
     tie.close
-    (tie.spec Inv-loop μ-loop add-twice member-at-requires add-j loop-holds member-at-requires-2 is-lower-requires returns lower-of-requires
+    (tie.spec Inv-loop μ-loop add-twice member-at-requires add-j loop-holds member-at-requires-2 is-lower-requires returns first-of-requires
     add-j-2 (λ c. omega arith) loop-again returns-2)
