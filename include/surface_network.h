@@ -28,6 +28,15 @@
  * of the other sort. A run that goes on from the ring's last member to N
  * therefore comes last.
  *
+ * Spacings: neighbours in one row stand along_row centimetres apart, neighbours in
+ * one column along_column, SN_MIN_SPACING to SN_MAX_SPACING each. The squared length
+ * of a diagonal is the sum of the two squares. Among neighbours below a post the
+ * steepest is the virtual pit where it is one of them, else the one with the greatest
+ * drop over the length of its edge, compared exactly; of equal slopes, as between
+ * neighbours of the post's own height, the lower one. Among those above it is the
+ * one with the greatest rise over that length; of equal slopes the higher one. Marks
+ * and rings do not depend on spacings.
+ *
  *
  * Rules for every call
  *
@@ -42,7 +51,7 @@
  *   only read may be lent to several at once. Whoever re-shoots a plot keeps other
  *   threads from its lists meanwhile.
  * - An accepted call answers code SN_OK, place 0, then its values. A refused one
- *   answers a code from 1 to 14 and its place; every other value is 0, and no
+ *   answers a code from 1 to 15 and its place; every other value is 0, and no
  *   list is changed. Where several refusals hold, the one listed first under the
  *   call is answered. The place is 0 except with SN_HEIGHT_OUT_OF_RANGE.
  */
@@ -57,8 +66,8 @@ extern "C" {
 #endif
 
 /* Version of the library. The build takes it from these three lines. */
-#define SN_VERSION_MAJOR 2
-#define SN_VERSION_MINOR 1
+#define SN_VERSION_MAJOR 3
+#define SN_VERSION_MINOR 0
 #define SN_VERSION_PATCH 0
 #define SN_VERSION \
     SN_TEXT(SN_VERSION_MAJOR) "." SN_TEXT(SN_VERSION_MINOR) "." SN_TEXT(SN_VERSION_PATCH)
@@ -108,18 +117,28 @@ extern "C" {
 #define SN_MIN_TENTHS (-10000000)
 #define SN_MAX_TENTHS 10000000
 
+/* Range of a spacing, in centimetres. */
+#define SN_MIN_SPACING 1
+#define SN_MAX_SPACING 1000
+
 /* The virtual pit in lists and answers. */
 #define SN_VIRTUAL_PIT 65535
 
 /* No line has more entries: every post once, and the virtual pit. */
 #define SN_MAX_LINE 14401
 
-/* Survey files, in bytes. */
-#define SN_FILE_VERSION 1
-#define SN_FILE_HEADER 7
+/* Survey files, in bytes, of the version that is written. */
+#define SN_FILE_VERSION 2
+#define SN_FILE_HEADER 11
 #define SN_FILE_SIZE(rows, columns) \
     (SN_FILE_HEADER + 4 * SN_TO_SIZE(rows) * SN_TO_SIZE(columns))
-#define SN_MAX_FILE 57607 /* SN_FILE_SIZE(SN_MAX_SIDE, SN_MAX_SIDE) */
+#define SN_MAX_FILE 57611 /* SN_FILE_SIZE(SN_MAX_SIDE, SN_MAX_SIDE) */
+
+/* Files of version 1, which are read too: both their spacings are SN_FILE_SPACING_1. A
+   file of either version with SN_FILE_HEADER_1 bytes or more has its sides. */
+#define SN_FILE_VERSION_1 1
+#define SN_FILE_HEADER_1 7
+#define SN_FILE_SPACING_1 100
 
 /* Settings sheets, in bytes: the first that are always there, and the most that a sheet has. */
 #define SN_SHEET_VERSION 1
@@ -189,16 +208,17 @@ enum {
     SN_NOT_A_SADDLE = 7,        /* line of a post that is no saddle */
     SN_NO_SUCH_RUN = 8,         /* run not below the post's runs of that sort */
     SN_LINE_TOO_LONG = 9,       /* the line has more entries than its list */
-    SN_FILE_TOO_SHORT = 10,     /* file under 7 bytes */
-    SN_BAD_VERSION = 11,        /* version not 1 */
+    SN_FILE_TOO_SHORT = 10,     /* file under 7 bytes, or of version 2 under 11 */
+    SN_BAD_VERSION = 11,        /* version neither 1 nor 2 */
     SN_BAD_COUNT = 12,          /* stated count is not that of the bytes after
-                                   it, or not 2 + 4 * rows * columns */
+                                   it, or not that of the version and the sides */
     SN_BAD_SHEET = 13,          /* a sheet of 1 to 4 bytes, of another version,
                                    whose count is not that of the bytes after it,
                                    or whose entries do not end where it ends */
-    SN_BAD_ENTRY = 14           /* an entry of a sheet whose kind is unknown or not
+    SN_BAD_ENTRY = 14,          /* an entry of a sheet whose kind is unknown or not
                                    above the one before, or whose length or value
                                    is outside its range */
+    SN_BAD_SPACING = 15         /* a spacing outside 1 to 1,000 centimetres */
 };
 
 /* The code of an answer in words, for a message. Never null; the text lives as long as the program. */
@@ -215,11 +235,12 @@ SN_INLINE const char *sn_code_text(uint32_t code)
     case SN_NOT_A_SADDLE: return "the post is no saddle";
     case SN_NO_SUCH_RUN: return "the saddle has no such run";
     case SN_LINE_TOO_LONG: return "the line has more entries than its list";
-    case SN_FILE_TOO_SHORT: return "the file has under 7 bytes";
-    case SN_BAD_VERSION: return "the file's version is not 1";
-    case SN_BAD_COUNT: return "the file's count does not fit its length and sides";
+    case SN_FILE_TOO_SHORT: return "the file has under 7 bytes, or under 11 of version 2";
+    case SN_BAD_VERSION: return "the file's version is neither 1 nor 2";
+    case SN_BAD_COUNT: return "the file's count does not fit its length, version and sides";
     case SN_BAD_SHEET: return "the settings sheet is damaged or of another version";
     case SN_BAD_ENTRY: return "the settings sheet has an entry that it may not have";
+    case SN_BAD_SPACING: return "a spacing is outside 1 to 1,000 centimetres";
     default: return "no such code";
     }
 }
@@ -262,6 +283,7 @@ typedef struct sn_entries {
 typedef struct sn_size {
     uint32_t code, place;
     uint32_t rows, columns;
+    uint32_t along_row, along_column; /* SN_FILE_SPACING_1 where the file has none */
 } sn_size;
 
 /*
@@ -362,9 +384,9 @@ sn_ring_mark sn_ring(const uint8_t *sheet, size_t sheet_length,
                      uint8_t *ring, size_t ring_length);
 
 /*
- * Next down: the lowest neighbour of a post, or the post itself if it is a pit.
+ * Next down: the steepest neighbour below a post, or the post itself if it is a pit.
  * From a border post that is SN_VIRTUAL_PIT.
- * Next up: the highest neighbour, or the post itself if it is a peak.
+ * Next up: the steepest neighbour above it, or the post itself if it is a peak.
  *
  * Reads   sheet, and heights, rows * columns of them.
  * Writes  nothing.
@@ -372,27 +394,31 @@ sn_ring_mark sn_ring(const uint8_t *sheet, size_t sheet_length,
  *   SN_BAD_SHEET
  *   SN_BAD_ENTRY
  *   SN_BAD_SIDES
+ *   SN_BAD_SPACING
  *   SN_BAD_HEIGHTS_LENGTH
  *   SN_HEIGHT_OUT_OF_RANGE  place: the first such post
  *   SN_NO_SUCH_POST
  */
-SN_USE_ANSWER SN_READS(1, 2) SN_READS(5, 6)
+SN_USE_ANSWER SN_READS(1, 2) SN_READS(7, 8)
 sn_next sn_next_down(const uint8_t *sheet, size_t sheet_length,
                      uint32_t rows, uint32_t columns,
+                     uint32_t along_row, uint32_t along_column,
                      const int32_t *heights, size_t heights_length,
                      uint32_t post);
 
-SN_USE_ANSWER SN_READS(1, 2) SN_READS(5, 6)
+SN_USE_ANSWER SN_READS(1, 2) SN_READS(7, 8)
 sn_next sn_next_up(const uint8_t *sheet, size_t sheet_length,
                    uint32_t rows, uint32_t columns,
+                   uint32_t along_row, uint32_t along_column,
                    const int32_t *heights, size_t heights_length,
                    uint32_t post);
 
 /*
  * Thalweg (water line) of a saddle and one of its lower runs: the saddle, the
- * lowest member of the run, then next down until a pit, which is the last entry.
+ * steepest member of the run, which is SN_VIRTUAL_PIT where the run holds it, then
+ * next down until a pit, which is the last entry.
  * Ridge (crest line) of a saddle and one of its upper runs: the saddle, the
- * highest member of the run, then next up until a peak.
+ * steepest member of the run, then next up until a peak.
  *
  * Reads   sheet, and heights, rows * columns of them.
  * Writes  line[0] to line[count - 1]. Entries from count on keep their content.
@@ -401,6 +427,7 @@ sn_next sn_next_up(const uint8_t *sheet, size_t sheet_length,
  *   SN_BAD_SHEET
  *   SN_BAD_ENTRY
  *   SN_BAD_SIDES
+ *   SN_BAD_SPACING
  *   SN_BAD_HEIGHTS_LENGTH
  *   SN_HEIGHT_OUT_OF_RANGE  place: the first such post
  *   SN_NO_SUCH_POST
@@ -408,16 +435,18 @@ sn_next sn_next_up(const uint8_t *sheet, size_t sheet_length,
  *   SN_NO_SUCH_RUN
  *   SN_LINE_TOO_LONG        SN_VIRTUAL_PIT counts as an entry
  */
-SN_USE_ANSWER SN_READS(1, 2) SN_READS(5, 6) SN_WRITES(9, 10)
+SN_USE_ANSWER SN_READS(1, 2) SN_READS(7, 8) SN_WRITES(11, 12)
 sn_entries sn_thalweg(const uint8_t *sheet, size_t sheet_length,
                       uint32_t rows, uint32_t columns,
+                      uint32_t along_row, uint32_t along_column,
                       const int32_t *heights, size_t heights_length,
                       uint32_t post, uint32_t run,
                       uint16_t *line, size_t line_length);
 
-SN_USE_ANSWER SN_READS(1, 2) SN_READS(5, 6) SN_WRITES(9, 10)
+SN_USE_ANSWER SN_READS(1, 2) SN_READS(7, 8) SN_WRITES(11, 12)
 sn_entries sn_ridge(const uint8_t *sheet, size_t sheet_length,
                     uint32_t rows, uint32_t columns,
+                    uint32_t along_row, uint32_t along_column,
                     const int32_t *heights, size_t heights_length,
                     uint32_t post, uint32_t run,
                     uint16_t *line, size_t line_length);
@@ -432,13 +461,15 @@ sn_entries sn_ridge(const uint8_t *sheet, size_t sheet_length,
  *   SN_BAD_SHEET
  *   SN_BAD_ENTRY
  *   SN_BAD_SIDES
+ *   SN_BAD_SPACING
  *   SN_BAD_HEIGHTS_LENGTH
  *   SN_BAD_LIST_LENGTH      dales or hills are not rows * columns
  *   SN_HEIGHT_OUT_OF_RANGE  place: the first such post
  */
-SN_USE_ANSWER SN_READS(1, 2) SN_READS(5, 6) SN_WRITES(7, 8) SN_WRITES(9, 10)
+SN_USE_ANSWER SN_READS(1, 2) SN_READS(7, 8) SN_WRITES(9, 10) SN_WRITES(11, 12)
 sn_answer sn_dales_and_hills(const uint8_t *sheet, size_t sheet_length,
                              uint32_t rows, uint32_t columns,
+                             uint32_t along_row, uint32_t along_column,
                              const int32_t *heights, size_t heights_length,
                              uint16_t *dales, size_t dales_length,
                              uint16_t *hills, size_t hills_length);
@@ -448,22 +479,30 @@ sn_answer sn_dales_and_hills(const uint8_t *sheet, size_t sheet_length,
  *
  *     byte 0       version, SN_FILE_VERSION
  *     bytes 1..4   count of the bytes after these, unsigned, big-endian:
- *                  2 + 4 * rows * columns
+ *                  6 + 4 * rows * columns
  *     byte 5       rows
  *     byte 6       columns
+ *     bytes 7, 8   spacing along a row in centimetres, unsigned, big-endian
+ *     bytes 9, 10  spacing along a column, likewise
  *     then         for each post a signed big-endian 32-bit number of tenths of
  *                  a millimetre, SN_MIN_TENTHS to SN_MAX_TENTHS
+ *
+ * A file of version SN_FILE_VERSION_1 has no spacings, a count of 2 + 4 * rows *
+ * columns, and its heights from byte 7 on. It reads as if both spacings were
+ * SN_FILE_SPACING_1.
  *
  * Read: rounds to the nearest whole millimetre, a half going to the even one: tenths
  * 5, 15, 25 and -5 become 0, 2, 2 and 0.
  *
  * Reads   file.
- * Writes  heights: every entry. Bytes 5 and 6 of a file of SN_FILE_HEADER bytes
+ * Writes  heights: every entry. Bytes 5 and 6 of a file of SN_FILE_HEADER_1 bytes
  *         or more tell beforehand how many there must be.
- * Answers SN_OK with rows and columns, or in this order
- *   SN_FILE_TOO_SHORT
+ * Answers SN_OK with rows, columns and spacings, or in this order
+ *   SN_FILE_TOO_SHORT       under SN_FILE_HEADER_1 bytes
  *   SN_BAD_VERSION
+ *   SN_FILE_TOO_SHORT       of version SN_FILE_VERSION under SN_FILE_HEADER bytes
  *   SN_BAD_SIDES
+ *   SN_BAD_SPACING
  *   SN_BAD_COUNT
  *   SN_BAD_LIST_LENGTH      heights are not rows * columns
  *   SN_HEIGHT_OUT_OF_RANGE  place: the first such post
@@ -473,18 +512,21 @@ sn_size sn_read_survey(const uint8_t *file, size_t file_length,
                        int32_t *heights, size_t heights_length);
 
 /*
- * Write: a file that reads back to the same heights.
+ * Write: a file of version SN_FILE_VERSION, which reads back to the same heights and
+ * spacings.
  *
  * Reads   heights, rows * columns of them.
  * Writes  file, exactly SN_FILE_SIZE(rows, columns) bytes: every one.
  * Answers SN_OK, or in this order
  *   SN_BAD_SIDES
+ *   SN_BAD_SPACING
  *   SN_BAD_HEIGHTS_LENGTH
  *   SN_BAD_LIST_LENGTH      file is not SN_FILE_SIZE(rows, columns)
  *   SN_HEIGHT_OUT_OF_RANGE  place: the first such post
  */
-SN_USE_ANSWER SN_READS(3, 4) SN_WRITES(5, 6)
+SN_USE_ANSWER SN_READS(5, 6) SN_WRITES(7, 8)
 sn_answer sn_write_survey(uint32_t rows, uint32_t columns,
+                          uint32_t along_row, uint32_t along_column,
                           const int32_t *heights, size_t heights_length,
                           uint8_t *file, size_t file_length);
 

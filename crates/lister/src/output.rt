@@ -4,6 +4,7 @@ use listing::first::put_first;
 use listing::posts::put_posts;
 use surface::Grid;
 use surface::MAX_POSTS;
+use surface::Spacings;
 use survey_file::posts_in;
 ghost use Prim.Native.Nat.{_≤_};
 ghost use lib.ListN.{length};
@@ -16,13 +17,20 @@ ghost use Rattle.listing.specs.Lines.{Known};
 const OUTPUT_ROOM: usize = 65536;
 
 // Prints the lines of all posts, a full buffer at a time.
-fn print_posts(heights: &[i32], grid: Grid, dales: &[u16], hills: &[u16], buffer: &mut [u8]) -> bool
-    requires { ⌜ Known (plotOf grid (now heights)) (now dales) (now hills) × (postRoom ≤ length (now buffer)) ⌝ }
+fn print_posts(
+    heights: &[i32],
+    grid: Grid,
+    spacings: Spacings,
+    dales: &[u16],
+    hills: &[u16],
+    buffer: &mut [u8],
+) -> bool
+    requires { ⌜ Known (plotOf grid (now heights)) spacings (now dales) (now hills) × (postRoom ≤ length (now buffer)) ⌝ }
 {
     let posts = grid.rows * grid.columns;
     let mut post = 0;
     while post < posts {
-        let filled = put_posts(heights, grid, dales, hills, post, buffer);
+        let filled = put_posts(heights, grid, spacings, dales, hills, post, buffer);
         let bytes = filled.bytes;
         if !io::write_all(STDOUT_FILENO, &buffer[..bytes]) {
             return false;
@@ -47,11 +55,12 @@ fn print_listing(
     let begun = put_first(sheet, file, heights, marks, dales, hills, buffer);
     let bytes = begun.bytes;
     let grid = begun.grid;
+    let spacings = begun.spacings;
     let written = io::write_all(STDOUT_FILENO, &buffer[..bytes]);
     if !written | (grid.rows == 0) {
         return written;
     }
-    print_posts(heights, grid, dales, hills, buffer)
+    print_posts(heights, grid, spacings, dales, hills, buffer)
 }
 
 // Prints the listing of a sheet and a file. Its plot may be as large as any.

@@ -14,6 +14,7 @@ use Rattle.surface.specs.Lines.{down, up, daleAt, hillAt, dalesOf, hillsOf}
 use Rattle.surface.specs.Lister.{linesText, saddleLines, postLines}
 use Rattle.surface.proofs.General.Bools.{either}
 use Rattle.surface.proofs.General.ListOf.{listOf-ext}
+use Rattle.surface.specs.declared.Spacings.{Spacings}
 use Rattle.post.specs.declared.ring.Ring.{Ring}
 use Rattle.lines.specs.Runs.{Saddle}
 use Rattle.listing.specs.Wrote.{runsRoom, postRoom, Wrote}
@@ -25,43 +26,43 @@ first-false : (a b : Bool) → a && b ≡ false → b ≡ true → a ≡ false
 first-false true b h e = absurd (true≢false (sym e ∙ h))
 first-false false b h e = refl
 
-module _ {pl : Plot} {dales hills : List ℕ} (k : Known pl dales hills) {p : ℕ} {ring : Ring} (s : Saddle pl p ring) where
-  pub downward : SaddleWith pl false p ring dales
+module _ {pl : Plot} {s : Spacings} {dales hills : List ℕ} (k : Known pl s dales hills) {p : ℕ} {ring : Ring} (z : Saddle pl p ring) where
+  pub downward : SaddleWith pl s false p ring dales
   unfolding dalesOf daleAt
-  downward = record { saddle = s; known = k .dalesKnown }
+  downward = record { saddle = z; spaced = k .spaced; known = k .dalesKnown }
 
-  pub upward : SaddleWith pl true p ring hills
+  pub upward : SaddleWith pl s true p ring hills
   unfolding hillsOf hillAt
-  upward = record { saddle = s; known = k .hillsKnown }
+  upward = record { saddle = z; spaced = k .spaced; known = k .hillsKnown }
 
-module _ (pl : Plot) (p : ℕ) where
-  pub no-saddle : (l : List ℕ) (at : ℕ) → markAt pl p < 3 → Wrote postRoom l l at (postLines pl p) at
+module _ (pl : Plot) (s : Spacings) (p : ℕ) where
+  pub no-saddle : (l : List ℕ) (at : ℕ) → markAt pl p < 3 → Wrote postRoom l l at (postLines pl s p) at
   unfolding postLines
   no-saddle l at h = rw (lt-ltb _ 3 h) (nothing l at)
 
   -- water lines, then crest lines
   pub both : {l l₁ l₂ : List ℕ} {at next last : ℕ} → 3 ≤ markAt pl p
-      → Wrote runsRoom l l₁ at (linesText pl 84 (down pl) p) next
-      → Wrote runsRoom l₁ l₂ next (linesText pl 82 (up pl) p) last
-      → Wrote postRoom l l₂ at (postLines pl p) last
+      → Wrote runsRoom l l₁ at (linesText pl 84 (down pl s) p) next
+      → Wrote runsRoom l₁ l₂ next (linesText pl 82 (up pl s) p) last
+      → Wrote postRoom l l₂ at (postLines pl s p) last
   unfolding postLines saddleLines
   both h w v = rw (le-ltb _ 3 h) (more w v)
 
   -- posts one after the other
-  from-none : linesFrom pl p p ≡ []
+  from-none : linesFrom pl s p p ≡ []
   unfolding linesFrom listOf flatten
   from-none = let e : p - p ≡ 0 = omega arith in rw e
 
-  from-more : (next : ℕ) → p ≤ next → linesFrom pl p (next + 1) ≡ linesFrom pl p next ++ postLines pl next
+  from-more : (next : ℕ) → p ≤ next → linesFrom pl s p (next + 1) ≡ linesFrom pl s p next ++ postLines pl s next
   unfolding linesFrom
   from-more next h =
       let e : next + 1 - p ≡ (next - p) + 1 = omega arith in
       let f : p + (next - p) ≡ next = omega arith in
-      rw (e, flatten-more (λ i. postLines pl (p + i)) (next - p), f)
+      rw (e, flatten-more (λ i. postLines pl s (p + i)) (next - p), f)
 
   -- the lines up to post `next` are written, in a list with room after place `last`
   pub record Going (l l₁ : List ℕ) (last next bytes : ℕ) : Type 0 where
-    pub wrote : Wrote (last + postRoom) l l₁ 0 (linesFrom pl p next) bytes
+    pub wrote : Wrote (last + postRoom) l l₁ 0 (linesFrom pl s p next) bytes
     pub size : length l₁ ≡ length l
     pub low : p ≤ next
     pub first : next ≡ p → bytes ≡ 0
@@ -70,7 +71,7 @@ module _ (pl : Plot) (p : ℕ) where
   going-none l last = record { wrote = rw from-none (nothing l 0); size = refl; low = omega arith; first = λ _. refl }
 
   pub going-more : {l l₁ l₂ : List ℕ} {last next bytes more′ : ℕ} → Going l l₁ last next bytes → bytes ≤ last
-      → Wrote postRoom l₁ l₂ bytes (postLines pl next) more′
+      → Wrote postRoom l₁ l₂ bytes (postLines pl s next) more′
       → length l₂ ≡ length l₁
       → Going l l₂ last (next + 1) more′
   going-more {next = next} g h w e =
@@ -84,9 +85,9 @@ module _ (pl : Plot) (p : ℕ) where
 
   pub going-end : {l l₁ : List ℕ} {last next bytes : ℕ} → Going l l₁ last next bytes → last + postRoom ≡ length l → next ≤ posts pl
       → (ltb next (posts pl) && leb bytes last) ≡ false
-      → Listed pl p l l₁ (record { post = next; bytes = bytes })
+      → Listed pl s p l l₁ (record { post = next; bytes = bytes })
   going-end {l} {l₁} {last} {next} {bytes} g e h stop =
-      let f = front l l₁ (linesFrom pl p next) bytes (omega arith) (g .wrote) in
+      let f = front l l₁ (linesFrom pl s p next) bytes (omega arith) (g .wrote) in
       record { text = f .0; kept = f .1; room = f .2; low = g .low; further = further; high = h }
     where
       further : p < posts pl → p < next
@@ -98,17 +99,17 @@ module _ (pl : Plot) (p : ℕ) where
           absurd (omega (arith, ltb-false next (posts pl) (first-false _ _ stop (le-leb bytes last none)))))
 
 -- pieces of the text, one after the other
-pub from-zero : (pl : Plot) (n : ℕ) → linesFrom pl 0 n ≡ flatten (listOf (postLines pl) n)
+pub from-zero : (pl : Plot) (s : Spacings) (n : ℕ) → linesFrom pl s 0 n ≡ flatten (listOf (postLines pl s) n)
 unfolding linesFrom
-from-zero pl n =
+from-zero pl s n =
     let e : n - 0 ≡ n = omega arith in
-    rw e (ap flatten (listOf-ext (λ i. postLines pl (0 + i)) (postLines pl) n (λ i _. let f : 0 + i ≡ i = omega arith in rw f)))
+    rw e (ap flatten (listOf-ext (λ i. postLines pl s (0 + i)) (postLines pl s) n (λ i _. let f : 0 + i ≡ i = omega arith in rw f)))
 
 -- all posts' lines are those up to a post and those from it on
-pub from-both : (pl : Plot) (p q n : ℕ) → p ≤ q → linesFrom pl p q ++ linesFrom pl q (q + n) ≡ linesFrom pl p (q + n)
-from-both pl p q zero h = let e : q + 0 ≡ q = omega arith in rw (e, from-none pl q) (append-nil (linesFrom pl p q))
-from-both pl p q (suc n) h =
+pub from-both : (pl : Plot) (s : Spacings) (p q n : ℕ) → p ≤ q → linesFrom pl s p q ++ linesFrom pl s q (q + n) ≡ linesFrom pl s p (q + n)
+from-both pl s p q zero h = let e : q + 0 ≡ q = omega arith in rw (e, from-none pl s q) (append-nil (linesFrom pl s p q))
+from-both pl s p q (suc n) h =
     let e : q + suc n ≡ q + n + 1 = omega arith in
-    rw (e, from-more pl q (q + n) (omega arith), from-more pl p (q + n) (omega arith))
-    (sym (append-assoc (linesFrom pl p q) (linesFrom pl q (q + n)) (postLines pl (q + n)))
-    ∙ ap (λ (l : List ℕ). l ++ postLines pl (q + n)) (from-both pl p q n h))
+    rw (e, from-more pl s q (q + n) (omega arith), from-more pl s p (q + n) (omega arith))
+    (sym (append-assoc (linesFrom pl s p q) (linesFrom pl s q (q + n)) (postLines pl s (q + n)))
+    ∙ ap (λ (l : List ℕ). l ++ postLines pl s (q + n)) (from-both pl s p q n h))

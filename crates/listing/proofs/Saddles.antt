@@ -17,10 +17,10 @@ use Rattle.surface.proofs.General.ListOf.{length-listOf, getD-listOf}
 use Rattle.surface.proofs.AnyOrder.Grid.{not-pit}
 use Rattle.surface.proofs.AnyOrder.Walks.{Falling, end-stop, pit-stop}
 use Rattle.surface.proofs.OfPlots.Instance.{toward-falling}
+use Rattle.surface.specs.declared.Spacings.{Spacings}
 use Rattle.post.specs.declared.ring.Ring.{Ring}
 use Rattle.lines.specs.declared.run.Start.{Start}
 use Rattle.lines.specs.Runs.{Starts}
-use Rattle.lines.proofs.Ringed.{toward-ring}
 use Rattle.lines.proofs.Called.{start-vertex}
 use Rattle.listing.specs.Wrote.{lineRoom, Wrote}
 use Rattle.listing.specs.Lines.{endFrom, runLines, SaddleWith}
@@ -76,15 +76,15 @@ end-pit ends v e = rw (eq-eqb v virtualPit e)
 pub end-post : (ends : List ℕ) (v : ℕ) → (v ≡ virtualPit → ⊥) → getD ends v 0 ≡ endFrom ends v
 end-post ends v h = rw (ne-eqb v virtualPit h)
 
-module _ {pl : Plot} {up : Bool} {p : ℕ} {ring : Ring} {ends : List ℕ} (s : SaddleWith pl up p ring ends) where
+module _ {pl : Plot} {spacings : Spacings} {up : Bool} {p : ℕ} {ring : Ring} {ends : List ℕ} (s : SaddleWith pl spacings up p ring ends) where
   abbrev d : Descent
-  d = toward up pl
+  d = toward pl spacings up
 
   law : Falling (posts pl) d
-  law = toward-falling pl (s .saddle .post .valid .sides) up
+  law = toward-falling pl (s .saddle .post .valid .sides) spacings up
 
   pub few-runs : length (runsOf d p) ≤ 8
-  few-runs = omega (arith, runs-few (λ q. d .lower q p) (d .ring p), ap length (toward-ring pl up p), s .saddle .holds .len, s .saddle .holds .low)
+  few-runs = omega (arith, runs-few (λ q. d .lower q p) (d .ring p), s .saddle .holds .len, s .saddle .holds .low)
 
   -- the end by the list of ends is the end of the walk
   end-known : (v : ℕ) → Vertex (posts pl) v → endFrom ends v ≡ end d (posts pl) v

@@ -9,6 +9,7 @@ use lib.Dec.{eqb}
 use lib.IntN.{ℤ, pos}
 use lib.ListN.{length, replicate, length-replicate}
 use Rattle.surface.specs.Plot.{Plot, ruled, posts, maxSide, isSide, Valid}
+use Rattle.surface.specs.Lines.{spacings}
 use Rattle.surface.specs.Refusals.{verdict, readVerdict}
 use Rattle.surface.specs.Calls.{sheetSays, plotBy, readAnswer, readHeights, surveyAnswer, partsDales, partsHills}
 use Rattle.surface.specs.Lister.{decimal, textLine, headLine, plotText, refusedText, fileListing, listing}
@@ -16,13 +17,13 @@ use Rattle.surface.specs.declared.Answer.{Answer}
 use Rattle.surface.specs.declared.Counts.{Counts}
 use Rattle.surface.specs.declared.Sheet.{Sheet}
 use Rattle.surface.specs.declared.Size.{Size}
+use Rattle.surface.specs.declared.Spacings.{Spacings}
 use Rattle.surface.proofs.General.Bools.{either}
 use Rattle.surface.proofs.OfCalls.Accepted.{valid-survey, valid-parts, rowsIn, columnsIn, postsIn, read-valid}
 use Rattle.surface.proofs.OfCalls.FileCalls.{read-code, read-served}
 use Rattle.surface.proofs.OfCalls.MarkCalls.{survey-filled, survey-served}
-use Rattle.surface.proofs.OfCalls.RoundTrip.{read-fresh, read-plot}
+use Rattle.surface.proofs.OfCalls.RoundTrip.{read-fresh, read-plot, read-spaced}
 use Rattle.survey_file.specs.Layout.{plotPosts}
-use Rattle.parts.proofs.Outcome.{parts-filled}
 use Rattle.listing.specs.Wrote.{lineRoom, Wrote}
 use Rattle.listing.specs.Lines.{linesFrom, Known}
 use Rattle.listing.specs.First.{Lent, Refuses, Begins}
@@ -52,6 +53,9 @@ module _ (file : List ℕ) (hs : List ℤ) (h : length hs ≡ plotPosts file) wh
     abbrev read : Plot
     read = ruled highest (readAnswer file hs .rows) (readAnswer file hs .columns) (readHeights file hs)
 
+    abbrev apart : Spacings
+    apart = spacings (readAnswer file hs .east) (readAnswer file hs .south)
+
     valid : Valid read
     valid = let v = read-plot file hs e in record { sides = v .sides; size = v .size; inRange = v .inRange }
 
@@ -64,7 +68,7 @@ module _ (file : List ℕ) (hs : List ℤ) (h : length hs ≡ plotPosts file) wh
     alike : length hs ≡ length (fresh file)
     alike = read-valid file hs accepted .room ∙ sym (rw length-replicate)
 
-    whole : plotText read ≡ fileListing sheet file
+    whole : plotText read apart ≡ fileListing sheet file
     unfolding fileListing
     whole = let f = read-fresh file hs (fresh file) alike in rw (← f .0, e, ← f .1 e, means)
 
@@ -78,14 +82,16 @@ module _ (file : List ℕ) (hs : List ℤ) (h : length hs ≡ plotPosts file) wh
         rw (survey-served read marks v, survey-filled read marks v)
 
     known : (dales hills : List ℕ) → length dales ≡ posts read → length hills ≡ posts read
-        → Known read (partsDales read dales hills) (partsHills read dales hills)
+        → Known read apart (partsDales read apart dales hills) (partsHills read apart dales hills)
+    unfolding partsDales partsHills
     known dales hills k m =
-        let f = parts-filled read dales hills (ap (λ (a : Answer). a .code) (valid-parts read valid (refl, refl) dales hills k m)) in
-        record { valid = valid; dalesKnown = sym (f .0); hillsKnown = sym (f .1) }
+        let spaced = read-spaced file hs e in
+        let v = valid-parts read valid (refl, refl) spaced dales hills k m in
+        record { valid = valid; spaced = spaced; dalesKnown = rw v; hillsKnown = rw v }
 
-    left : headLine read ++ linesFrom read 0 (posts read) ≡ fileListing sheet file
+    left : headLine read ++ linesFrom read apart 0 (posts read) ≡ fileListing sheet file
     unfolding plotText
-    left = rw (from-zero read (posts read)) whole
+    left = rw (from-zero read apart (posts read)) whole
 
 -- what a sheet means that is not refused
 pub said-means : (sheet : List ℕ) (said : Sheet) → said ≡ sheetSays sheet → said .code ≡ 0 → (rows columns : ℕ) (heights : List ℤ)
@@ -120,12 +126,12 @@ module _ (sheet file : List ℕ) (hs : List ℤ) (h : length hs ≡ plotPosts fi
       → a .code ≡ 0
       → after ≡ readHeights file hs
       → counts ≡ surveyAnswer (plotBy sheet (a .rows) (a .columns) after) marks
-      → dales′ ≡ partsDales (plotBy sheet (a .rows) (a .columns) after) dales hills
-      → hills′ ≡ partsHills (plotBy sheet (a .rows) (a .columns) after) dales hills
+      → dales′ ≡ partsDales (plotBy sheet (a .rows) (a .columns) after) (spacings (a .east) (a .south)) dales hills
+      → hills′ ≡ partsHills (plotBy sheet (a .rows) (a .columns) after) (spacings (a .east) (a .south)) dales hills
       → Lent file hs marks dales hills
       → lineRoom ≤ length l
       → Wrote lineRoom l l₁ 0 (textLine 78 (decimal (a .rows) ∷ decimal (a .columns) ∷ decimal (counts .peaks) ∷ decimal (counts .pits) ∷ decimal (counts .saddles) ∷ [])) bytes
-      → Begins (fileListing sheet file) after dales′ hills′ l₁ (record { grid = record { rows = a .rows; columns = a .columns; highest = highest }; bytes = bytes })
+      → Begins (fileListing sheet file) after dales′ hills′ l₁ (record { grid = record { rows = a .rows; columns = a .columns; highest = highest }; spacings = spacings (a .east) (a .south); bytes = bytes })
   begins-accepted highest means after marks dales hills dales′ hills′ l l₁ counts bytes e ea ec ed eh r k w =
       let c : readAnswer file hs .code ≡ 0 = rw isAnswer at e in
       let plotted = means (a .rows) (a .columns) after in

@@ -26,5 +26,5 @@ pub record Refuses (text buffer : List ℕ) (r : Begun) : Type 0 where
 pub record Begins (whole : List ℕ) (hs : List ℤ) (dales hills buffer : List ℕ) (r : Begun) : Type 0 where
   pub room : r .bytes ≤ length buffer
   pub refused : r .grid .rows ≡ 0 → take (r .bytes) buffer ≡ whole
-  pub text : (r .grid .rows ≡ 0 → ⊥) → take (r .bytes) buffer ++ linesFrom (plotOf (r .grid) hs) 0 (posts (plotOf (r .grid) hs)) ≡ whole
-  pub known : (r .grid .rows ≡ 0 → ⊥) → Known (plotOf (r .grid) hs) dales hills
+  pub text : (r .grid .rows ≡ 0 → ⊥) → take (r .bytes) buffer ++ linesFrom (plotOf (r .grid) hs) (r .spacings) 0 (posts (plotOf (r .grid) hs)) ≡ whole
+  pub known : (r .grid .rows ≡ 0 → ⊥) → Known (plotOf (r .grid) hs) (r .spacings) dales hills

@@ -7,8 +7,9 @@ use lib.Dec.{eqb}
 use lib.ListN.{length, getD, take, drop}
 use Rattle.surface.specs.Lists.{listOf}
 use Rattle.surface.specs.Plot.{Plot, posts, virtualPit, Valid}
-use Rattle.surface.specs.Lines.{Descent, end, line, toward, dalesOf, hillsOf}
+use Rattle.surface.specs.Lines.{Descent, Spaced, end, line, toward, dalesOf, hillsOf}
 use Rattle.surface.specs.Lister.{lineText, postLines}
+use Rattle.surface.specs.declared.Spacings.{Spacings}
 use Rattle.post.specs.declared.ring.Ring.{Ring}
 use Rattle.lines.specs.Runs.{Saddle}
 use Rattle.listing.specs.declared.posts.Filled.{Filled}
@@ -27,24 +28,26 @@ module _ (pl : Plot) where
   runLines letter d p n = flatten (listOf (λ run. lineText letter p run (line d (posts pl) p run)) n)
 
   -- the lines of the posts from one up to another
-  unfoldable pub linesFrom : ℕ → ℕ → List ℕ
-  linesFrom from next = flatten (listOf (λ i. postLines pl (from + i)) (next - from))
+  unfoldable pub linesFrom : Spacings → ℕ → ℕ → List ℕ
+  linesFrom s from next = flatten (listOf (λ i. postLines pl s (from + i)) (next - from))
 
 -- a saddle with its ring, and the ends in one direction
-pub record SaddleWith (pl : Plot) (up : Bool) (p : ℕ) (ring : Ring) (ends : List ℕ) : Type 0 where
+pub record SaddleWith (pl : Plot) (s : Spacings) (up : Bool) (p : ℕ) (ring : Ring) (ends : List ℕ) : Type 0 where
   pub saddle : Saddle pl p ring
-  pub known : ends ≡ endsOf pl (toward up pl)
+  pub spaced : Spaced s
+  pub known : ends ≡ endsOf pl (toward pl s up)
 
--- a plot, and its dales and hills
-pub record Known (pl : Plot) (dales hills : List ℕ) : Type 0 where
+-- a plot, spacings in range, and its dales and hills by these
+pub record Known (pl : Plot) (s : Spacings) (dales hills : List ℕ) : Type 0 where
   pub valid : Valid pl
-  pub dalesKnown : dales ≡ dalesOf pl
-  pub hillsKnown : hills ≡ hillsOf pl
+  pub spaced : Spaced s
+  pub dalesKnown : dales ≡ dalesOf pl s
+  pub hillsKnown : hills ≡ hillsOf pl s
 
 -- the first bytes are the lines of the posts from `from` on, up to the post named, which is further on where there was a post left; later bytes are
 -- kept
-pub record Listed (pl : Plot) (from : ℕ) (old new : List ℕ) (r : Filled) : Type 0 where
-  pub text : take (r .bytes) new ≡ linesFrom pl from (r .post)
+pub record Listed (pl : Plot) (s : Spacings) (from : ℕ) (old new : List ℕ) (r : Filled) : Type 0 where
+  pub text : take (r .bytes) new ≡ linesFrom pl s from (r .post)
   pub kept : drop (r .bytes) new ≡ drop (r .bytes) old
   pub room : r .bytes ≤ length new
   pub low : from ≤ r .post

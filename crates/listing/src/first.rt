@@ -6,6 +6,7 @@ use settings::read_sheet;
 use surface::Grid;
 use surface::HIGHEST_RULE;
 use surface::Sheet;
+use surface::Spacings;
 use survey::survey;
 use survey_file::read_survey;
 ghost use mathlib.Core.Path.{_≡_};
@@ -16,9 +17,10 @@ ghost use Rattle.surface.specs.Lister.{refusedText, fileListing, listing};
 ghost use Rattle.listing.specs.Wrote.{lineRoom};
 ghost use Rattle.listing.specs.First.{Lent, Refuses, Begins};
 
-// The plot, with 0 rows and columns where the sheet or the file was refused, and how many bytes are written.
+// The plot and its spacings, all 0 where the sheet or the file was refused, and how many bytes are written.
 pub struct Begun {
     pub grid: Grid,
+    pub spacings: Spacings,
     pub bytes: usize,
 }
 
@@ -33,6 +35,7 @@ fn put_refusal(code: u32, place: u32, out: &mut [u8]) -> Begun
             columns: 0,
             highest: false,
         },
+        spacings: Spacings { east: 0, south: 0 },
         bytes: put_refused(out, 0, code, place),
     }
 }
@@ -58,14 +61,17 @@ fn put_file(
     }
     let rows = size.rows;
     let columns = size.columns;
+    let east = size.east;
+    let south = size.south;
     let sums = survey(sheet, rows, columns, heights, marks);
-    dales_and_hills(sheet, rows, columns, heights, dales, hills);
+    dales_and_hills(sheet, rows, columns, east, south, heights, dales, hills);
     Begun {
         grid: Grid {
             rows: rows as usize,
             columns: columns as usize,
             highest: said.rule == HIGHEST_RULE,
         },
+        spacings: Spacings { east, south },
         bytes: put_head(out, 0, rows, columns, sums.peaks, sums.pits, sums.saddles),
     }
 }

@@ -7,6 +7,7 @@ use post::ring::ring_at;
 use surface::DOWN;
 use surface::Grid;
 use surface::SADDLE;
+use surface::Spacings;
 use surface::UP;
 use surface::VIRTUAL_PIT;
 ghost use mathlib.Core.Path.{_≡_};
@@ -42,6 +43,7 @@ fn end_from(ends: &[u16], vertex: usize) -> u32
 fn put_runs(
     heights: &[i32],
     grid: Grid,
+    spacings: Spacings,
     up: bool,
     letter: u8,
     p: usize,
@@ -50,13 +52,13 @@ fn put_runs(
     out: &mut [u8],
     at: usize,
 ) -> usize
-    requires { ⌜ SaddleWith (plotOf grid (now heights)) up p ring (now ends) × (at + runsRoom ≤ length (now out)) ⌝ }
-    ensures { λ r. ⌜ Wrote runsRoom (now (out .entry)) (now (out .exit)) at (linesText (plotOf grid (now (heights .entry))) letter (toward up (plotOf grid (now (heights .entry)))) p) r ⌝ }
+    requires { ⌜ SaddleWith (plotOf grid (now heights)) spacings up p ring (now ends) × (at + runsRoom ≤ length (now out)) ⌝ }
+    ensures { λ r. ⌜ Wrote runsRoom (now (out .entry)) (now (out .exit)) at (linesText (plotOf grid (now (heights .entry))) letter (toward (plotOf grid (now (heights .entry))) spacings up) p) r ⌝ }
 {
     let mut next = at;
     let mut run = 0;
     loop {
-        let start = line_start(heights, grid, up, p, ring, run);
+        let start = line_start(heights, grid, spacings, up, p, ring, run);
         if !start.found {
             break;
         }
@@ -71,41 +73,43 @@ fn put_runs(
 fn put_post(
     heights: &[i32],
     grid: Grid,
+    spacings: Spacings,
     dales: &[u16],
     hills: &[u16],
     p: usize,
     out: &mut [u8],
     at: usize,
 ) -> usize
-    requires { ⌜ Known (plotOf grid (now heights)) (now dales) (now hills) × (p < grid .rows * grid .columns) × (at + postRoom ≤ length (now out)) ⌝ }
-    ensures { λ r. ⌜ Wrote postRoom (now (out .entry)) (now (out .exit)) at (postLines (plotOf grid (now (heights .entry))) p) r ⌝ }
+    requires { ⌜ Known (plotOf grid (now heights)) spacings (now dales) (now hills) × (p < grid .rows * grid .columns) × (at + postRoom ≤ length (now out)) ⌝ }
+    ensures { λ r. ⌜ Wrote postRoom (now (out .entry)) (now (out .exit)) at (postLines (plotOf grid (now (heights .entry))) spacings p) r ⌝ }
 {
     if mark_at(heights, grid, p) < SADDLE {
         return at;
     }
     let ring = ring_at(heights, grid, p);
-    let end = put_runs(heights, grid, DOWN, b'T', p, ring, dales, out, at);
-    put_runs(heights, grid, UP, b'R', p, ring, hills, out, end)
+    let end = put_runs(heights, grid, spacings, DOWN, b'T', p, ring, dales, out, at);
+    put_runs(heights, grid, spacings, UP, b'R', p, ring, hills, out, end)
 }
 
 // The lines of as many posts from `from` on as there is room for.
 pub fn put_posts(
     heights: &[i32],
     grid: Grid,
+    spacings: Spacings,
     dales: &[u16],
     hills: &[u16],
     from: usize,
     out: &mut [u8],
 ) -> Filled
-    requires { ⌜ Known (plotOf grid (now heights)) (now dales) (now hills) × (from ≤ grid .rows * grid .columns) × (postRoom ≤ length (now out)) ⌝ }
-    ensures { λ r. ⌜ Listed (plotOf grid (now (heights .entry))) from (now (out .entry)) (now (out .exit)) r ⌝ }
+    requires { ⌜ Known (plotOf grid (now heights)) spacings (now dales) (now hills) × (from ≤ grid .rows * grid .columns) × (postRoom ≤ length (now out)) ⌝ }
+    ensures { λ r. ⌜ Listed (plotOf grid (now (heights .entry))) spacings from (now (out .entry)) (now (out .exit)) r ⌝ }
 {
     let posts = grid.rows * grid.columns;
     let last = out.len() - POST_ROOM;
     let mut post = from;
     let mut bytes = 0;
     while (post < posts) & (bytes <= last) {
-        bytes = put_post(heights, grid, dales, hills, post, out, bytes);
+        bytes = put_post(heights, grid, spacings, dales, hills, post, out, bytes);
         post += 1;
     }
     Filled { post, bytes }

@@ -1,4 +1,5 @@
-// The calls for C: lists come as a pointer and a length, answers go back as structs of numbers. include/surface_network.h declares them.
+// The calls for C: lists come as a pointer and a length, answers go back as structs of numbers. include/surface_network.h declares them; what is east and
+// south here is along_row and along_column there.
 use surface::Answer;
 use surface::Counts;
 use surface::Entries;
@@ -8,6 +9,7 @@ use surface::Sheet;
 use surface::Size;
 ghost use mathlib.Core.Path.{_≡_};
 ghost use Rattle.surface.specs.Plot.{plot};
+ghost use Rattle.surface.specs.Lines.{spacings};
 ghost use Rattle.surface.specs.Calls.{plotBy, settingsAnswer, settingsName, surveyAnswer, surveyMarks, reshootAnswer, reshootHeights, reshootMarks, ringAnswer, ringList, nextDownAnswer, nextUpAnswer, thalwegAnswer, thalwegList, ridgeAnswer, ridgeList, partsAnswer, partsDales, partsHills, readAnswer, readHeights, writeAnswer, writeFile};
 
 #[no_mangle]
@@ -69,12 +71,14 @@ pub extern "C" fn sn_next_down(
     sheet: &[u8],
     rows: u32,
     columns: u32,
+    east: u32,
+    south: u32,
     heights: &[i32],
     post: u32,
 ) -> Next
-    ensures { λ r. ⌜ r ≡ nextDownAnswer (plotBy (now (sheet .entry)) rows columns (now (heights .entry))) post ⌝ }
+    ensures { λ r. ⌜ r ≡ nextDownAnswer (plotBy (now (sheet .entry)) rows columns (now (heights .entry))) (spacings east south) post ⌝ }
 {
-    lines::next_down(sheet, rows, columns, heights, post)
+    lines::next_down(sheet, rows, columns, east, south, heights, post)
 }
 
 #[no_mangle]
@@ -82,12 +86,14 @@ pub extern "C" fn sn_next_up(
     sheet: &[u8],
     rows: u32,
     columns: u32,
+    east: u32,
+    south: u32,
     heights: &[i32],
     post: u32,
 ) -> Next
-    ensures { λ r. ⌜ r ≡ nextUpAnswer (plotBy (now (sheet .entry)) rows columns (now (heights .entry))) post ⌝ }
+    ensures { λ r. ⌜ r ≡ nextUpAnswer (plotBy (now (sheet .entry)) rows columns (now (heights .entry))) (spacings east south) post ⌝ }
 {
-    lines::next_up(sheet, rows, columns, heights, post)
+    lines::next_up(sheet, rows, columns, east, south, heights, post)
 }
 
 #[no_mangle]
@@ -95,15 +101,17 @@ pub extern "C" fn sn_thalweg(
     sheet: &[u8],
     rows: u32,
     columns: u32,
+    east: u32,
+    south: u32,
     heights: &[i32],
     post: u32,
     run: u32,
     line: &mut [u16],
 ) -> Entries
-    ensures { λ r. ⌜ r ≡ thalwegAnswer (plotBy (now (sheet .entry)) rows columns (now (heights .entry))) post run (now (line .entry)) ⌝ }
-    ensures { λ _. ⌜ now (line .exit) ≡ thalwegList (plotBy (now (sheet .entry)) rows columns (now (heights .entry))) post run (now (line .entry)) ⌝ }
+    ensures { λ r. ⌜ r ≡ thalwegAnswer (plotBy (now (sheet .entry)) rows columns (now (heights .entry))) (spacings east south) post run (now (line .entry)) ⌝ }
+    ensures { λ _. ⌜ now (line .exit) ≡ thalwegList (plotBy (now (sheet .entry)) rows columns (now (heights .entry))) (spacings east south) post run (now (line .entry)) ⌝ }
 {
-    lines::thalweg(sheet, rows, columns, heights, post, run, line)
+    lines::thalweg(sheet, rows, columns, east, south, heights, post, run, line)
 }
 
 #[no_mangle]
@@ -111,15 +119,17 @@ pub extern "C" fn sn_ridge(
     sheet: &[u8],
     rows: u32,
     columns: u32,
+    east: u32,
+    south: u32,
     heights: &[i32],
     post: u32,
     run: u32,
     line: &mut [u16],
 ) -> Entries
-    ensures { λ r. ⌜ r ≡ ridgeAnswer (plotBy (now (sheet .entry)) rows columns (now (heights .entry))) post run (now (line .entry)) ⌝ }
-    ensures { λ _. ⌜ now (line .exit) ≡ ridgeList (plotBy (now (sheet .entry)) rows columns (now (heights .entry))) post run (now (line .entry)) ⌝ }
+    ensures { λ r. ⌜ r ≡ ridgeAnswer (plotBy (now (sheet .entry)) rows columns (now (heights .entry))) (spacings east south) post run (now (line .entry)) ⌝ }
+    ensures { λ _. ⌜ now (line .exit) ≡ ridgeList (plotBy (now (sheet .entry)) rows columns (now (heights .entry))) (spacings east south) post run (now (line .entry)) ⌝ }
 {
-    lines::ridge(sheet, rows, columns, heights, post, run, line)
+    lines::ridge(sheet, rows, columns, east, south, heights, post, run, line)
 }
 
 #[no_mangle]
@@ -127,15 +137,17 @@ pub extern "C" fn sn_dales_and_hills(
     sheet: &[u8],
     rows: u32,
     columns: u32,
+    east: u32,
+    south: u32,
     heights: &[i32],
     dales: &mut [u16],
     hills: &mut [u16],
 ) -> Answer
-    ensures { λ r. ⌜ r ≡ partsAnswer (plotBy (now (sheet .entry)) rows columns (now (heights .entry))) (now (dales .entry)) (now (hills .entry)) ⌝ }
-    ensures { λ _. ⌜ now (dales .exit) ≡ partsDales (plotBy (now (sheet .entry)) rows columns (now (heights .entry))) (now (dales .entry)) (now (hills .entry)) ⌝ }
-    ensures { λ _. ⌜ now (hills .exit) ≡ partsHills (plotBy (now (sheet .entry)) rows columns (now (heights .entry))) (now (dales .entry)) (now (hills .entry)) ⌝ }
+    ensures { λ r. ⌜ r ≡ partsAnswer (plotBy (now (sheet .entry)) rows columns (now (heights .entry))) (spacings east south) (now (dales .entry)) (now (hills .entry)) ⌝ }
+    ensures { λ _. ⌜ now (dales .exit) ≡ partsDales (plotBy (now (sheet .entry)) rows columns (now (heights .entry))) (spacings east south) (now (dales .entry)) (now (hills .entry)) ⌝ }
+    ensures { λ _. ⌜ now (hills .exit) ≡ partsHills (plotBy (now (sheet .entry)) rows columns (now (heights .entry))) (spacings east south) (now (dales .entry)) (now (hills .entry)) ⌝ }
 {
-    parts::dales_and_hills(sheet, rows, columns, heights, dales, hills)
+    parts::dales_and_hills(sheet, rows, columns, east, south, heights, dales, hills)
 }
 
 #[no_mangle]
@@ -150,11 +162,13 @@ pub extern "C" fn sn_read_survey(file: &[u8], heights: &mut [i32]) -> Size
 pub extern "C" fn sn_write_survey(
     rows: u32,
     columns: u32,
+    east: u32,
+    south: u32,
     heights: &[i32],
     file: &mut [u8],
 ) -> Answer
-    ensures { λ r. ⌜ r ≡ writeAnswer (plot rows columns (now (heights .entry))) (now (file .entry)) ⌝ }
-    ensures { λ _. ⌜ now (file .exit) ≡ writeFile (plot rows columns (now (heights .entry))) (now (file .entry)) ⌝ }
+    ensures { λ r. ⌜ r ≡ writeAnswer (plot rows columns (now (heights .entry))) (spacings east south) (now (file .entry)) ⌝ }
+    ensures { λ _. ⌜ now (file .exit) ≡ writeFile (plot rows columns (now (heights .entry))) (spacings east south) (now (file .entry)) ⌝ }
 {
-    survey_file::write_survey(rows, columns, heights, file)
+    survey_file::write_survey(rows, columns, east, south, heights, file)
 }

@@ -10,13 +10,13 @@ use Rattle.lister.proofs.output.print_listing.Statement.{statement}
 use Rattle.lister.proofs.output.print_listing.Tie as tie
 
 slice-aggregate-write-all : tie.Need-slice-aggregate-write-all
-slice-aggregate-write-all c = sym (length-take-le _ _ (c .before .before .before .before .before .before .before .before .before .before .before .put-first .ensures .room))
+slice-aggregate-write-all c = sym (length-take-le _ _ (c .before .before .before .before .before .before .before .before .before .before .before .before .put-first .ensures .room))
 
 print-posts-requires : tie.Need-print-posts-requires
 print-posts-requires c κs =
     let left = c .before .before .before .before in
     let wrote = left .before .before in
-    let first = wrote .before .before .before .before .before .before .before .before .before .before .before .before in
+    let first = wrote .before .before .before .before .before .before .before .before .before .before .before .before .before in
     let start = first .before .before .before .before .before .before .before .before .before .before .before .before in (
       first .put-first .ensures .known (eqb-false _ 0 (or-right (not (wrote .write-all .result)) _ (left .if1 .left))),
       omega (arith, first .put-first .kept, start .pre .1),

@@ -33,11 +33,11 @@ returns c =
 abbrev accepted : tie.After-slice-known8 → tie.Else1
 accepted c = c .before .before .before .before .before .before .before .before .before .before .before .before .before
 
-cast-t30 : tie.Need-cast-t30
-cast-t30 c = omega (arith, sides (accepted c) .0)
+cast-t32 : tie.Need-cast-t32
+cast-t32 c = omega (arith, sides (accepted c) .0)
 
-cast-t31 : tie.Need-cast-t31
-cast-t31 c = omega (arith, sides (accepted c) .1)
+cast-t33 : tie.Need-cast-t33
+cast-t33 c = omega (arith, sides (accepted c) .1)
 
 put-head-requires : tie.Need-put-head-requires
 put-head-requires c κs = let read = accepted (c .before .before) .before .before in omega (arith, start read .pre .1)
@@ -68,5 +68,5 @@ returns-2 c =
 pub put-file-spec : {M : Type 1} → statement M
 put-file-spec =
     tie.close
-    (tie.spec (search needs) (search needs) (search needs) (search needs) returns (search needs) (search needs) cast-t30 cast-t31 put-head-requires
+    (tie.spec (search needs) (search needs) (search needs) (search needs) returns (search needs) (search needs) cast-t32 cast-t33 put-head-requires
     (search needs) (search needs) (search needs) (search needs) (search needs) returns-2)

@@ -28,7 +28,7 @@ returns : tie.Need-returns
 returns c =
     let at-start = c .before .before .before .before .before in
     let a = at-start .args in
-    no-saddle (plotOf (a .grid) (a .heights .now)) (a .p) (a .out .now) (a .at) (omega (arith, c .before .mark-at .ensures, c .if1 .taken))
+    no-saddle (plotOf (a .grid) (a .heights .now)) (a .spacings) (a .p) (a .out .now) (a .at) (omega (arith, c .before .mark-at .ensures, c .if1 .taken))
 
 ring-at-requires : tie.Need-ring-at-requires
 ring-at-requires c κs =
@@ -53,7 +53,7 @@ returns-2 c =
     let at-ring-at = at-put-runs .before .before in
     let at-start = at-ring-at .before .before .before .before .before .before in
     let a = at-start .args in
-    both (plotOf (a .grid) (a .heights .now)) (a .p) (saddle at-ring-at .saddle) (at-put-runs .put-runs .ensures) (c .before .before .put-runs2 .ensures)
+    both (plotOf (a .grid) (a .heights .now)) (a .spacings) (a .p) (saddle at-ring-at .saddle) (at-put-runs .put-runs .ensures) (c .before .before .put-runs2 .ensures)
 
 pub put-post-spec : {M : Type 1} → statement M
 put-post-spec = tie.close (tie.spec mark-at-requires returns ring-at-requires put-runs-requires put-runs-requires-2 (search needs) returns-2)

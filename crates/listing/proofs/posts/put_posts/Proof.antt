@@ -13,12 +13,12 @@ use Rattle.listing.proofs.posts.put_posts.Statement.{statement}
 use Rattle.listing.proofs.posts.put_posts.Tie as tie
 
 abbrev Inv-loop : tie.InvT-loop
-Inv-loop heights grid dales hills from out₀ all last post₀ bytes₀ out post bytes =
+Inv-loop heights grid spacings dales hills from out₀ all last post₀ bytes₀ out post bytes =
     let pl = plotOf grid heights in
-    (all ≡ posts pl) × (last + postRoom ≡ length out₀) × (post ≤ posts pl) × Going pl from out₀ out last post bytes
+    (all ≡ posts pl) × (last + postRoom ≡ length out₀) × (post ≤ posts pl) × Going pl spacings from out₀ out last post bytes
 
 abbrev μ-loop : tie.MeasureT-loop
-μ-loop heights grid dales hills from out₀ all last post₀ bytes₀ out post bytes = all - post
+μ-loop heights grid spacings dales hills from out₀ all last post₀ bytes₀ out post bytes = all - post
 
 -- how many posts there are, and the last place at which a post's lines have room
 abbrev end-post : tie.At-loop Inv-loop μ-loop → ℕ
@@ -53,7 +53,7 @@ loop-holds c =
     let at-start = c .before .before .before .before in
     let s = at-start in
     let a = s .args in
-    (refl, omega (arith, s .pre .2), s .pre .1, going-none (plotOf (a .grid) (a .heights .now)) (a .from) (a .out .now) _)
+    (refl, omega (arith, s .pre .2), s .pre .1, going-none (plotOf (a .grid) (a .heights .now)) (a .spacings) (a .from) (a .out .now) _)
 
 put-post-requires : tie.Need-put-post-requires Inv-loop μ-loop
 put-post-requires c κs =
@@ -83,7 +83,7 @@ loop-again c =
       l .inv .0,
       l .inv .1,
       omega (arith, left at-in-loop),
-      going-more (plotOf (a .grid) (a .heights .now)) (a .from) (l .inv .3) (room at-in-loop) (w .ensures) (omega (arith, w .kept)),
+      going-more (plotOf (a .grid) (a .heights .now)) (a .spacings) (a .from) (l .inv .3) (room at-in-loop) (w .ensures) (omega (arith, w .kept)),
     )
 
 same-length : tie.Need-same-length Inv-loop μ-loop
@@ -94,7 +94,7 @@ returns c =
     let at-start = c .before .before .before .before .before .before in
     let a = at-start .args in
     let v = c .before .loop .inv in
-    going-end (plotOf (a .grid) (a .heights .now)) (a .from) (v .3) (v .1) (v .2) (c .loop-test .left)
+    going-end (plotOf (a .grid) (a .heights .now)) (a .spacings) (a .from) (v .3) (v .1) (v .2) (c .loop-test .left)
 
 pub put-posts-spec : {M : Type 1} → statement M
 put-posts-spec =

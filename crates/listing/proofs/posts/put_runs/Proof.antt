@@ -14,12 +14,12 @@ use Rattle.listing.proofs.posts.put_runs.Statement.{statement}
 use Rattle.listing.proofs.posts.put_runs.Tie as tie
 
 abbrev Inv-loop : tie.InvT-loop
-Inv-loop heights grid up letter p ring ends out₀ at next₀ run₀ out next run =
-    let d = toward up (plotOf grid heights) in
+Inv-loop heights grid spacings up letter p ring ends out₀ at next₀ run₀ out next run =
+    let d = toward (plotOf grid heights) spacings up in
     (run ≤ length (runsOf d p)) × Wrote (lineRoom * run) out₀ out at (runLines (plotOf grid heights) letter d p run) next × (length out ≡ length out₀)
 
 abbrev μ-loop : tie.MeasureT-loop
-μ-loop heights grid up letter p ring ends out₀ at next₀ run₀ out next run = 8 - run
+μ-loop heights grid spacings up letter p ring ends out₀ at next₀ run₀ out next run = 8 - run
 
 -- there is such a run
 there : (c : tie.Else1 Inv-loop μ-loop) → c .before .before .before .loop .run < 8
@@ -31,10 +31,10 @@ loop-holds : tie.Need-loop-holds Inv-loop μ-loop
 loop-holds c =
     let a = c .before .before .args in
     let pl = plotOf (a .grid) (a .heights .now) in
-    (omega arith, no-lines pl (a .letter) (toward (a .up) pl) (a .p) (a .out .now) (a .at), refl)
+    (omega arith, no-lines pl (a .letter) (toward pl (a .spacings) (a .up)) (a .p) (a .out .now) (a .at), refl)
 
 line-start-requires : tie.Need-line-start-requires Inv-loop μ-loop
-line-start-requires c κs = c .before .before .before .pre .0 .saddle
+line-start-requires c κs = let s = c .before .before .before .pre .0 in (s .saddle, s .spaced)
 
 end-from-requires : tie.Need-end-from-requires Inv-loop μ-loop
 end-from-requires c κs =
@@ -87,7 +87,7 @@ returns c =
     let at-start = at-loop .before .before .before in
     let s = at-start in
     let a = s .args in
-    let n : at-loop .loop .run ≡ length (runsOf (toward (a .up) (plotOf (a .grid) (a .heights .now))) (a .p)) =
+    let n : at-loop .loop .run ≡ length (runsOf (toward (plotOf (a .grid) (a .heights .now)) (a .spacings) (a .up)) (a .p)) =
     omega (arith, at-loop .loop .inv .0, none (s .pre .0) (c .before .before .line-start .ensures) (not-true _ (c .if1 .taken))) in
     rw (← n) (within (omega (arith, few-runs (s .pre .0))) (at-loop .loop .inv .1))
 
