@@ -2,12 +2,13 @@
  * Turns a grid of heights into a survey file: what the lister, panel.c and
  * lines.c read.
  *
- *     grid <plot.grid >plot.svy
+ *     grid [along_row along_column] <plot.grid >plot.svy
  *
  * A line of input is a row of the plot: whole millimetres, parted by blanks. Lines
- * without a number are passed over. A fault is told on standard error with its line
- * and column, in bytes and counted from 1; then nothing is written, and the status
- * is 1.
+ * without a number are passed over. The posts stand so many centimetres apart along a
+ * row and along a column, 100 if nothing is said. A fault of the input is told on
+ * standard error with its line and column, in bytes and counted from 1; then nothing
+ * is written, and the status is 1.
  */
 #include "surface_network.h"
 
@@ -15,7 +16,7 @@
 #include <stdio.h>
 #include <stdlib.h>
 
-static uint32_t rows, columns;
+static uint32_t rows, columns, along_row = 100, along_column = 100;
 static size_t posts;
 static int32_t heights[SN_MAX_POSTS];
 static uint8_t file[SN_MAX_FILE];
@@ -152,14 +153,37 @@ static void read_grid(void)
         fault(column, "the input ends after one row; a plot has 2 or more");
 }
 
-int main(void)
+/* A spacing as digits. Past the bound it grows no more. */
+static uint32_t spacing_of(const char *text)
+{
+    const char *digit = text;
+    uint32_t spacing = 0;
+
+    for (; *digit >= '0' && *digit <= '9'; digit++)
+        spacing = spacing > SN_MAX_SPACING ? spacing : 10 * spacing + (uint32_t)(*digit - '0');
+    if (*digit != '\0' || spacing < SN_MIN_SPACING || spacing > SN_MAX_SPACING) {
+        fprintf(stderr, "grid: no spacing of %d to %d: %s\n", SN_MIN_SPACING, SN_MAX_SPACING, text);
+        exit(EXIT_FAILURE);
+    }
+    return spacing;
+}
+
+int main(int argc, char **argv)
 {
     size_t size;
     sn_answer answer;
 
+    if (argc != 1 && argc != 3) {
+        fprintf(stderr, "usage: grid [along_row along_column] <plot.grid >plot.svy\n");
+        return 2;
+    }
+    if (argc == 3) {
+        along_row = spacing_of(argv[1]);
+        along_column = spacing_of(argv[2]);
+    }
     read_grid();
     size = SN_FILE_SIZE(rows, columns);
-    answer = sn_write_survey(rows, columns, heights, posts, file, size);
+    answer = sn_write_survey(rows, columns, along_row, along_column, heights, posts, file, size);
     if (answer.code != SN_OK)
         failure(sn_code_text(answer.code));
     if (fwrite(file, 1, size, stdout) != size || fflush(stdout) != 0)

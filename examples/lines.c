@@ -13,7 +13,7 @@
 #include <stdio.h>
 
 static uint8_t file[SN_MAX_FILE + 1]; /* a byte more, to see a file that is too long */
-static uint32_t rows, columns;
+static uint32_t rows, columns, along_row, along_column;
 static size_t posts;
 static int32_t heights[SN_MAX_POSTS];
 static uint8_t marks[SN_MAX_POSTS];
@@ -41,12 +41,14 @@ static int read_plot(const char *name)
         return 1;
     }
     fclose(f);
-    posts = length < SN_FILE_HEADER ? 0 : (size_t)file[5] * file[6];
+    posts = length < SN_FILE_HEADER_1 ? 0 : (size_t)file[5] * file[6];
     if (posts > SN_MAX_POSTS)
         posts = 0;
     size = sn_read_survey(file, length, heights, posts);
     rows = size.rows;
     columns = size.columns;
+    along_row = size.along_row;
+    along_column = size.along_column;
     return size.code == SN_OK ? 0 : refused(name, size.code);
 }
 
@@ -73,15 +75,15 @@ static int show_lines_of(uint32_t saddle)
     sn_entries entries;
 
     for (run = 0; run < runs; run++) {
-        entries = sn_thalweg(SN_NO_SHEET, rows, columns, heights, posts, saddle, run, line,
-                             SN_MAX_LINE);
+        entries = sn_thalweg(SN_NO_SHEET, rows, columns, along_row, along_column, heights, posts,
+                             saddle, run, line, SN_MAX_LINE);
         if (entries.code != SN_OK)
             return refused("thalweg", entries.code);
         show_line('T', saddle, run, entries.count);
     }
     for (run = 0; run < runs; run++) {
-        entries = sn_ridge(SN_NO_SHEET, rows, columns, heights, posts, saddle, run, line,
-                           SN_MAX_LINE);
+        entries = sn_ridge(SN_NO_SHEET, rows, columns, along_row, along_column, heights, posts,
+                           saddle, run, line, SN_MAX_LINE);
         if (entries.code != SN_OK)
             return refused("ridge", entries.code);
         show_line('R', saddle, run, entries.count);

@@ -12,7 +12,7 @@
 /* A byte more than the longest, to see a file that is too long. */
 static uint8_t file[SN_MAX_FILE + 1], sheet[SN_MAX_SHEET + 1];
 static size_t file_length, sheet_length; /* 0 where there is no sheet */
-static uint32_t rows, columns;
+static uint32_t rows, columns, along_row, along_column;
 static size_t posts;
 static int32_t heights[SN_MAX_POSTS];
 static uint8_t marks[SN_MAX_POSTS];
@@ -53,7 +53,7 @@ static int read_plot(void)
 {
     sn_size size;
 
-    posts = file_length < SN_FILE_HEADER ? 0 : (size_t)file[5] * file[6];
+    posts = file_length < SN_FILE_HEADER_1 ? 0 : (size_t)file[5] * file[6];
     if (posts > SN_MAX_POSTS)
         posts = 0;
     size = sn_read_survey(file, file_length, heights, posts);
@@ -61,6 +61,8 @@ static int read_plot(void)
         return refused("read", size.code, size.place);
     rows = size.rows;
     columns = size.columns;
+    along_row = size.along_row;
+    along_column = size.along_column;
     return 0;
 }
 
@@ -79,6 +81,12 @@ static int show_settings(void)
     printf(": diagonals through the %s posts\n",
            said.rule == SN_THROUGH_LOWEST ? "lowest" : "highest");
     return 0;
+}
+
+static void show_spacings(void)
+{
+    printf("posts %lu cm apart along a row, %lu cm along a column\n", (unsigned long)along_row,
+           (unsigned long)along_column);
 }
 
 static int survey(void)
@@ -111,7 +119,8 @@ static int walk_down(uint32_t post)
 {
     printf("walk:");
     for (;;) {
-        sn_next next = sn_next_down(sheet, sheet_length, rows, columns, heights, posts, post);
+        sn_next next = sn_next_down(sheet, sheet_length, rows, columns, along_row, along_column,
+                                    heights, posts, post);
         if (next.code != SN_OK)
             return refused("next", next.code, next.place);
         print_vertex(post);
@@ -149,10 +158,10 @@ static int show_ring(uint32_t post)
 static int show_saddle(uint32_t saddle)
 {
     uint32_t i;
-    sn_answer parts = sn_dales_and_hills(sheet, sheet_length, rows, columns, heights, posts,
-                                         dales, posts, hills, posts);
-    sn_entries entries = sn_thalweg(sheet, sheet_length, rows, columns, heights, posts, saddle, 0,
-                                    line, SN_MAX_LINE);
+    sn_answer parts = sn_dales_and_hills(sheet, sheet_length, rows, columns, along_row,
+                                         along_column, heights, posts, dales, posts, hills, posts);
+    sn_entries entries = sn_thalweg(sheet, sheet_length, rows, columns, along_row, along_column,
+                                    heights, posts, saddle, 0, line, SN_MAX_LINE);
 
     if (parts.code != SN_OK)
         return refused("dales and hills", parts.code, parts.place);
@@ -181,7 +190,10 @@ int main(int argc, char **argv)
         return 1;
     if (argc == 3 && read_file(argv[2], sheet, sizeof sheet, &sheet_length))
         return 1;
-    if (show_settings() || survey())
+    if (show_settings())
+        return 1;
+    show_spacings();
+    if (survey())
         return 1;
     middle = (uint32_t)posts / 2;
     if (reshoot(middle, heights[middle] - 5))

@@ -1,8 +1,9 @@
 /*
- * "Example plots" of docs/SPECIFICATION.md through the C calls, by both rules, and
- * settings sheets. Compiles as C99 and as C++. Every list is its own piece of the heap,
- * exactly as long as lent, so that a memory checker sees a byte too many; a ring's and a
- * name's lie between guards, which are looked at, so that they need no checker.
+ * "Example plots" of docs/SPECIFICATION.md through the C calls, by both rules, settings
+ * sheets, spacings and survey files. Compiles as C99 and as C++. Every list is its own
+ * piece of the heap, exactly as long as lent, so that a memory checker sees a byte too
+ * many; a ring's and a name's lie between guards, which are looked at, so that they need
+ * no checker.
  */
 #include "surface_network.h"
 
@@ -110,34 +111,38 @@ static const sheet *meaning(uint32_t rule)
 
 typedef struct {
     const char *name;
-    uint32_t rule, rows, columns;
-    int32_t heights[9];
-    uint8_t marks[9];
+    uint32_t rule, rows, columns, along_row, along_column;
+    int32_t heights[12];
+    uint8_t marks[12];
     uint32_t peaks, pits, saddles;
-    const char *rings[9]; /* a digit for each member of a post's ring */
-    uint32_t k[9];
-    uint16_t dales[9], hills[9];
+    const char *rings[12]; /* a digit for each member of a post's ring */
+    uint32_t k[12];
+    uint16_t dales[12], hills[12];
 } plot;
 
-enum { PLOTS = 11, V = SN_VIRTUAL_PIT };
+enum { PLOTS = 15, V = SN_VIRTUAL_PIT };
 
-static const plot flat = {"flat", 1, 2, 2, {0, 0, 0, 0}, {0, 0, 1, 0}, 1, 1, 0,
+/* Spacings. */
+#define EQUAL 100, 100
+#define WIDE 200, 100
+
+static const plot flat = {"flat", 1, 2, 2, EQUAL, {0, 0, 0, 0}, {0, 0, 1, 0}, 1, 1, 0,
                           {"3222", "324", "443", "4324"}, {1, 1, 1, 1},
                           {V, V, V, V}, {2, 2, 2, 2}};
-static const plot crossed = {"crossed", 1, 2, 2, {5, 0, 0, 5}, {1, 0, 3, 1}, 2, 1, 1,
+static const plot crossed = {"crossed", 1, 2, 2, EQUAL, {5, 0, 0, 5}, {1, 0, 3, 1}, 2, 1, 1,
                              {"333", "3121", "1413", "333"}, {1, 1, 2, 1},
                              {V, V, V, V}, {0, 3, 3, 3}};
-static const plot star = {"star", 1, 3, 3, {0, 2, 0, 2, 1, 2, 0, 2, 0},
+static const plot star = {"star", 1, 3, 3, EQUAL, {0, 2, 0, 2, 1, 2, 0, 2, 0},
                           {0, 1, 0, 1, 5, 1, 0, 1, 0}, 4, 1, 3,
                           {"3111", "3333", "3111", "3333", "13131313", "3333", "1113", "3333",
                            "1311"}, {1, 1, 1, 1, 4, 1, 1, 1, 1},
                           {V, V, V, V, V, V, V, V, V}, {3, 1, 5, 3, 7, 5, 7, 7, 7}};
-static const plot hollow = {"hollow", 1, 3, 3, {1, 1, 1, 1, 0, 1, 1, 1, 1},
+static const plot hollow = {"hollow", 1, 3, 3, EQUAL, {1, 1, 1, 1, 0, 1, 1, 1, 1},
                             {3, 0, 0, 0, 2, 0, 0, 0, 1}, 1, 2, 1,
                             {"3232", "3234", "3234", "4323", "11111111", "4323", "4323", "3234",
                              "4343"}, {2, 1, 1, 1, 0, 1, 1, 1, 1},
                             {V, V, V, V, 4, V, V, V, V}, {8, 8, 8, 8, 8, 8, 8, 8, 8}};
-static const plot runs = {"runs", 1, 3, 3, {0, 3, 9, 2, 5, 7, 6, 8, 1},
+static const plot runs = {"runs", 1, 3, 3, EQUAL, {0, 3, 9, 2, 5, 7, 6, 8, 1},
                           {0, 0, 1, 0, 3, 0, 0, 1, 0}, 2, 1, 1,
                           {"3111", "31113", "333", "31113", "313133", "13333", "313", "33333",
                            "1311"}, {1, 1, 1, 1, 2, 1, 1, 1, 1},
@@ -145,7 +150,7 @@ static const plot runs = {"runs", 1, 3, 3, {0, 3, 9, 2, 5, 7, 6, 8, 1},
 
 /* Driven 0 1 2 5 4 3 6 7 8. With ties by post number it has these marks, dales and hills too:
    rings and steps tell. The diagonals are 0-4, 1-5, 4-6 and 5-7. */
-static const plot level = {"level", 1, 3, 3, {0, 0, 0, 0, 0, 0, 0, 0, 0},
+static const plot level = {"level", 1, 3, 3, EQUAL, {0, 0, 0, 0, 0, 0, 0, 0, 0},
                            {0, 0, 0, 0, 0, 0, 0, 0, 1}, 1, 1, 0,
                            {"3222", "32224", "324", "4423", "442224", "432224", "4423", "44234",
                             "434"}, {1, 1, 1, 1, 1, 1, 1, 1, 1},
@@ -154,28 +159,64 @@ static const plot level = {"level", 1, 3, 3, {0, 0, 0, 0, 0, 0, 0, 0, 0},
 /* By rule 2 the diagonal of flat joins posts 1 and 2, and that of crossed posts 0 and 3. In star
    they are 1-3, 1-5, 3-7 and 5-7, a square round post 4; in hollow 1-3, 1-5, 3-7 and 4-8; in
    level 1-3, 2-4, 3-7 and 4-8. */
-static const plot flat_2 = {"flat, rule 2", 2, 2, 2, {0, 0, 0, 0}, {0, 0, 1, 0}, 1, 1, 0,
+static const plot flat_2 = {"flat, rule 2", 2, 2, 2, EQUAL, {0, 0, 0, 0}, {0, 0, 1, 0}, 1, 1, 0,
                             {"322", "3224", "4443", "432"}, {1, 1, 1, 1},
                             {V, V, V, V}, {2, 2, 2, 2}};
-static const plot crossed_2 = {"crossed, rule 2", 2, 2, 2, {5, 0, 0, 5}, {0, 0, 0, 1}, 1, 1, 0,
+static const plot crossed_2 = {"crossed, rule 2", 2, 2, 2, EQUAL, {5, 0, 0, 5},
+                               {0, 0, 0, 1}, 1, 1, 0,
                                {"3323", "311", "113", "3334"}, {1, 1, 1, 1},
                                {V, V, V, V}, {3, 3, 3, 3}};
-static const plot star_2 = {"star, rule 2", 2, 3, 3, {0, 2, 0, 2, 1, 2, 0, 2, 0},
+static const plot star_2 = {"star, rule 2", 2, 3, 3, EQUAL, {0, 2, 0, 2, 1, 2, 0, 2, 0},
                             {0, 3, 0, 0, 2, 0, 0, 1, 0}, 1, 2, 1,
                             {"311", "332323", "311", "343233", "1111", "333234", "113", "343334",
                              "131"}, {1, 2, 1, 1, 0, 1, 1, 1, 1},
                             {V, V, V, V, 4, V, V, V, V}, {7, 7, 7, 7, 7, 7, 7, 7, 7}};
-static const plot hollow_2 = {"hollow, rule 2", 2, 3, 3, {1, 1, 1, 1, 0, 1, 1, 1, 1},
+static const plot hollow_2 = {"hollow, rule 2", 2, 3, 3, EQUAL, {1, 1, 1, 1, 0, 1, 1, 1, 1},
                               {0, 3, 0, 0, 2, 0, 0, 0, 1}, 1, 2, 1,
                               {"322", "322324", "324", "443223", "11111", "43234", "423", "32344",
                                "4343"}, {1, 2, 1, 1, 0, 1, 1, 1, 1},
                               {V, V, V, V, 4, V, V, V, V}, {8, 8, 8, 8, 8, 8, 8, 8, 8}};
 
-static const plot level_2 = {"level, rule 2", 2, 3, 3, {0, 0, 0, 0, 0, 0, 0, 0, 0},
+static const plot level_2 = {"level, rule 2", 2, 3, 3, EQUAL, {0, 0, 0, 0, 0, 0, 0, 0, 0},
                              {0, 0, 0, 0, 0, 0, 0, 0, 1}, 1, 1, 0,
                              {"322", "32224", "3224", "444223", "444222", "4322", "423", "42344",
                               "4344"}, {1, 1, 1, 1, 1, 1, 1, 1, 1},
                              {V, V, V, V, V, V, V, V, V}, {8, 8, 8, 8, 8, 8, 8, 8, 8}};
+
+/* Steepest, not lowest: by equal spacings the middle drains to the east, though the post in the
+   corner is the lowest. By a wider one along the rows it drains to the corner. */
+static const plot slant = {"slant", 1, 3, 3, EQUAL, {9, 9, 9, 9, 8, 2, 9, 7, 0},
+                           {3, 0, 1, 0, 0, 0, 1, 0, 0}, 2, 1, 1,
+                           {"3232", "32334", "334", "43323", "133311", "13311", "433", "13311",
+                            "1311"},
+                           {2, 1, 1, 1, 1, 1, 1, 1, 1},
+                           {V, V, V, V, V, V, V, V, V},
+                           {6, 2, 2, 6, 6, 2, 6, 6, 6}};
+static const plot slant_wide = {"slant, wide", 1, 3, 3, WIDE, {9, 9, 9, 9, 8, 2, 9, 7, 0},
+                                {3, 0, 1, 0, 0, 0, 1, 0, 0}, 2, 1, 1,
+                                {"3232", "32334", "334", "43323", "133311", "13311", "433",
+                                 "13311", "1311"},
+                                {2, 1, 1, 1, 1, 1, 1, 1, 1},
+                                {V, V, V, V, V, V, V, V, V},
+                                {6, 2, 2, 6, 2, 2, 6, 6, 2}};
+
+/* Post 5 is a saddle with a run of the pit at 6 and of 9 on the border: a wider spacing along
+   the rows turns its line from the one to the other. */
+static const plot turn = {"turn", 1, 3, 4, EQUAL, {9, 17, 16, 15, 18, 10, 4, 14, 19, 5, 12, 13},
+                          {0, 1, 0, 0, 0, 3, 2, 0, 1, 3, 0, 0}, 2, 2, 2,
+                          {"3111", "33333", "3331", "3331", "33313", "13313", "11111111", "1333",
+                           "333", "131311", "3133", "1333"},
+                          {1, 1, 1, 1, 1, 2, 0, 1, 1, 2, 1, 1},
+                          {V, V, V, V, V, 6, 6, V, V, V, V, V},
+                          {8, 1, 1, 1, 8, 8, 1, 1, 8, 8, 1, 1}};
+static const plot turn_wide = {"turn, wide", 1, 3, 4, WIDE,
+                               {9, 17, 16, 15, 18, 10, 4, 14, 19, 5, 12, 13},
+                               {0, 1, 0, 0, 0, 3, 2, 0, 1, 3, 0, 0}, 2, 2, 2,
+                               {"3111", "33333", "3331", "3331", "33313", "13313", "11111111",
+                                "1333", "333", "131311", "3133", "1333"},
+                               {1, 1, 1, 1, 1, 2, 0, 1, 1, 2, 1, 1},
+                               {V, V, V, V, V, V, 6, V, V, V, V, V},
+                               {8, 1, 1, 1, 8, 1, 1, 1, 8, 8, 1, 1}};
 
 static size_t posts_of(const plot *p)
 {
@@ -329,8 +370,8 @@ static void refused_rings(void)
     check(has_codes(guarded, SN_RING_LENGTH, NULL), "a refused ring leaves its list");
 }
 
-typedef sn_entries line_call(const uint8_t *, size_t, uint32_t, uint32_t, const int32_t *, size_t,
-                             uint32_t, uint32_t, uint16_t *, size_t);
+typedef sn_entries line_call(const uint8_t *, size_t, uint32_t, uint32_t, uint32_t, uint32_t,
+                             const int32_t *, size_t, uint32_t, uint32_t, uint16_t *, size_t);
 
 /* One line into a list of some length; the entries expected, 7 where untouched. */
 static void line(line_call *call, const plot *p, uint32_t post, uint32_t run, size_t length,
@@ -347,7 +388,8 @@ static void line(line_call *call, const plot *p, uint32_t post, uint32_t run, si
 
     for (i = 0; i < length; i++)
         list[i] = 7;
-    got = call(bytes, s->length, p->rows, p->columns, heights, n, post, run, list, length);
+    got = call(bytes, s->length, p->rows, p->columns, p->along_row, p->along_column, heights, n,
+               post, run, list, length);
     check(got.code == code && got.place == 0 && got.count == count, what);
     for (i = 0; i < length; i++)
         check(list[i] == (i < 3 ? expected[i] : 7), what);
@@ -395,28 +437,93 @@ static void lines_2(void)
     line(sn_ridge, &hollow_2, 1, 1, 3, SN_LINE_TOO_LONG, 0, 7, 7, 7, "hollow, four entries");
 }
 
-/* Reads a 2 by 2 file of these tenths. */
-static sn_size read4(const int32_t *tenths, int32_t *heights)
+/* The lines of turn, by equal spacings and by a wider one along the rows. */
+static void lines_turned(void)
 {
-    const uint8_t header[SN_FILE_HEADER] = {SN_FILE_VERSION, 0, 0, 0, 18, 2, 2};
-    uint8_t *file = (uint8_t *)lent(SN_FILE_SIZE(2, 2), NULL);
+    line(sn_thalweg, &turn, 5, 0, 3, SN_OK, 2, 5, 6, 7, "turn, to the pit");
+    line(sn_thalweg, &turn_wide, 5, 0, 3, SN_OK, 3, 5, 9, V, "turned over the border");
+    line(sn_thalweg, &turn_wide, 5, 0, 2, SN_LINE_TOO_LONG, 0, 7, 7, 7, "turned, a list of two");
+    line(sn_thalweg, &turn, 5, 1, 3, SN_OK, 3, 5, 0, V, "turn, the other run");
+    line(sn_thalweg, &turn_wide, 5, 1, 3, SN_OK, 3, 5, 0, V, "turned, the other run");
+    line(sn_ridge, &turn_wide, 5, 1, 3, SN_OK, 3, 5, 4, 8, "turned, a crest line");
+    line(sn_thalweg, &turn_wide, 9, 1, 3, SN_OK, 2, 9, V, 7, "a run that holds the virtual pit");
+}
+
+/* Every call that takes spacings turns these away, after the sides and before the lists. */
+static void refused_spacings(uint32_t along_row, uint32_t along_column)
+{
+    static const uint32_t rows[3] = {2, 2, 1};
+    static const size_t lengths[3] = {4, 3, 3};
+    int32_t heights[4] = {5, 0, 0, 5};
+    uint16_t dales[4] = {7, 7, 7, 7}, hills[4] = {7, 7, 7, 7};
+    uint8_t file[SN_FILE_SIZE(2, 2)] = {7};
+    int i;
+
+    for (i = 0; i < 3; i++) {
+        uint32_t r = rows[i], a = along_row, b = along_column;
+        uint32_t code = r == 1 ? (uint32_t)SN_BAD_SIDES : (uint32_t)SN_BAD_SPACING;
+        size_t n = lengths[i];
+        sn_next down = sn_next_down(SN_NO_SHEET, r, 2, a, b, heights, n, 2);
+        sn_next up = sn_next_up(SN_NO_SHEET, r, 2, a, b, heights, n, 2);
+        sn_entries water = sn_thalweg(SN_NO_SHEET, r, 2, a, b, heights, n, 2, 0, dales, 4);
+        sn_entries crest = sn_ridge(SN_NO_SHEET, r, 2, a, b, heights, n, 2, 0, hills, 4);
+        sn_answer parts = sn_dales_and_hills(SN_NO_SHEET, r, 2, a, b, heights, n, dales, 4, hills,
+                                             4);
+        sn_answer wrote = sn_write_survey(r, 2, a, b, heights, n, file, sizeof file);
+        check(down.code == code && !down.place && !down.post, "next down, its spacings");
+        check(up.code == code && !up.place && !up.post, "next up, its spacings");
+        check(water.code == code && !water.place && !water.count, "thalweg, its spacings");
+        check(crest.code == code && !crest.place && !crest.count, "ridge, its spacings");
+        check(parts.code == code && !parts.place, "dales and hills, their spacings");
+        check(wrote.code == code && !wrote.place, "a file, its spacings");
+    }
+    for (i = 0; i < 4; i++)
+        check(dales[i] == 7 && hills[i] == 7, "no list is changed by bad spacings");
+    check(file[0] == 7 && file[1] == 0, "no file is changed by bad spacings");
+}
+
+static void spacings(void)
+{
+    static const uint32_t bad[4] = {0, SN_MAX_SPACING + 1, 65536 + 100, UINT32_MAX};
+    sn_next down = sn_next_down(SN_NO_SHEET, 2, 2, SN_MIN_SPACING, SN_MAX_SPACING,
+                                crossed.heights, 4, 0);
+    int i;
+
+    check(down.code == SN_OK && down.post == V, "spacings at their bounds");
+    for (i = 0; i < 4; i++) {
+        refused_spacings(bad[i], 100);
+        refused_spacings(100, bad[i]);
+        refused_spacings(bad[i], bad[3 - i]);
+    }
+}
+
+/* Reads a 2 by 2 file that begins so, with these tenths. */
+static sn_size read4(const uint8_t *header, size_t header_length, const int32_t *tenths,
+                     int32_t *heights)
+{
+    uint8_t *file = (uint8_t *)lent(header_length + 16, NULL), *at = file + header_length;
     sn_size got;
     int i;
 
-    memcpy(file, header, sizeof header);
-    for (i = 0; i < 4; i++) {
+    memcpy(file, header, header_length);
+    for (i = 0; i < 4; i++, at += 4) {
         uint32_t v = (uint32_t)tenths[i];
-        file[7 + 4 * i] = (uint8_t)(v >> 24);
-        file[8 + 4 * i] = (uint8_t)(v >> 16);
-        file[9 + 4 * i] = (uint8_t)(v >> 8);
-        file[10 + 4 * i] = (uint8_t)v;
+        at[0] = (uint8_t)(v >> 24);
+        at[1] = (uint8_t)(v >> 16);
+        at[2] = (uint8_t)(v >> 8);
+        at[3] = (uint8_t)v;
     }
-    got = sn_read_survey(file, SN_FILE_SIZE(2, 2), heights, 4);
+    got = sn_read_survey(file, header_length + 16, heights, 4);
     free(file);
     return got;
 }
 
-static void files(void)
+/* What both versions of a 2 by 2 file begin with. */
+static const uint8_t header_1[SN_FILE_HEADER_1] = {SN_FILE_VERSION_1, 0, 0, 0, 18, 2, 2};
+static const uint8_t header_2[SN_FILE_HEADER] = {SN_FILE_VERSION, 0, 0, 0, 22, 2, 2, 3, 232, 0, 1};
+
+/* Files of the version whose header this is, and of these spacings. */
+static void files(const uint8_t *header, size_t length, uint32_t along_row, uint32_t along_column)
 {
     static const int32_t halves[2][4] = {{4, 5, 15, -5}, {25, -15, -25, 26}};
     static const int32_t whole[2][4] = {{0, 0, 2, 0}, {2, -2, -2, 3}};
@@ -428,15 +535,17 @@ static void files(void)
     int i;
 
     for (i = 0; i < 2; i++) {
-        got = read4(halves[i], heights);
+        got = read4(header, length, halves[i], heights);
         check(got.code == SN_OK && got.rows == 2 && got.columns == 2, "tenths are read");
+        check(got.along_row == along_row && got.along_column == along_column, "spacings are read");
         check(memcmp(heights, whole[i], sizeof whole[i]) == 0, "halves go to even");
     }
-    got = read4(beyond, heights);
+    got = read4(header, length, beyond, heights);
     check(got.code == SN_HEIGHT_OUT_OF_RANGE && got.place == 2 && got.rows == 0,
           "10,000,001 tenths");
+    check(got.along_row == 0 && got.along_column == 0, "nothing of a refused file");
     check(memcmp(heights, whole[1], sizeof whole[1]) == 0, "a refused file leaves the heights");
-    got = read4(most, heights);
+    got = read4(header, length, most, heights);
     check(got.code == SN_OK && heights[0] == SN_MAX_HEIGHT && heights[1] == SN_MIN_HEIGHT,
           "10,000,000 tenths");
     got = sn_read_survey(file, 0, heights, 4);
@@ -447,20 +556,72 @@ static void files(void)
     free(file);
 }
 
+/* The files that begin as one of version 2 does, each on the heap: no byte after them is read.
+   Of another version they are refused as soon as there are SN_FILE_HEADER_1 bytes. */
+static void short_files(void)
+{
+    static const int32_t tenths[4] = {0, 0, 0, 0};
+    uint8_t spaced[SN_FILE_HEADER];
+    int32_t heights[4] = {7, 7, 7, 7};
+    size_t length;
+    sn_size got;
+
+    for (length = 0; length <= SN_FILE_HEADER; length++) {
+        uint8_t *file = (uint8_t *)lent(length, header_2);
+        uint32_t code = length < SN_FILE_HEADER_1 ? (uint32_t)SN_FILE_TOO_SHORT
+                                                  : (uint32_t)SN_BAD_VERSION;
+        got = sn_read_survey(file, length, heights, 4);
+        check(got.code == (length < SN_FILE_HEADER ? (uint32_t)SN_FILE_TOO_SHORT
+                                                   : (uint32_t)SN_BAD_COUNT), "a file cut short");
+        if (length > 0) {
+            file[0] = 3;
+            got = sn_read_survey(file, length, heights, 4);
+            check(got.code == code, "version 3, cut short");
+            file[0] = 0;
+            got = sn_read_survey(file, length, heights, 4);
+            check(got.code == code, "version 0, cut short");
+        }
+        free(file);
+    }
+    for (length = SN_FILE_HEADER_1; length < SN_FILE_HEADER; length += 2) {
+        memcpy(spaced, header_2, sizeof spaced);
+        spaced[length] = 4;
+        got = read4(spaced, sizeof spaced, tenths, heights);
+        check(got.code == SN_BAD_SPACING && got.rows == 0, "a filed spacing out of range");
+        spaced[length] = 0;
+        spaced[length + 1] = 0;
+        got = read4(spaced, sizeof spaced, tenths, heights);
+        check(got.code == SN_BAD_SPACING, "a filed spacing of 0");
+        spaced[4] = 18;
+        got = read4(spaced, sizeof spaced, tenths, heights);
+        check(got.code == SN_BAD_SPACING, "a spacing before the count");
+        spaced[6] = 1;
+        got = read4(spaced, sizeof spaced, tenths, heights);
+        check(got.code == SN_BAD_SIDES, "the sides before a spacing");
+    }
+    check(heights[0] == 7 && heights[3] == 7, "refused files leave the heights");
+}
+
 /* A file written and read back. */
 static void round_trip(void)
 {
+    static const uint8_t begins[SN_FILE_HEADER + 4] = {2, 0, 0, 0, 22, 2, 2, 0, 200, 1, 44,
+                                                       0, 0, 0, 50};
     int32_t *heights = (int32_t *)lent(4 * sizeof *heights, crossed.heights);
     uint8_t *file = (uint8_t *)lent(SN_FILE_SIZE(2, 2), NULL);
     int32_t back[4];
-    sn_answer wrote = sn_write_survey(2, 2, heights, 4, file, SN_FILE_SIZE(2, 2));
+    sn_answer wrote = sn_write_survey(2, 2, 200, 300, heights, 4, file, SN_FILE_SIZE(2, 2));
     sn_size got = sn_read_survey(file, SN_FILE_SIZE(2, 2), back, 4);
 
-    check(wrote.code == SN_OK && file[4] == 18 && file[10] == 50, "crossed is written");
+    check(wrote.code == SN_OK && memcmp(file, begins, sizeof begins) == 0, "crossed is written");
     check(got.code == SN_OK && memcmp(back, heights, sizeof back) == 0, "and read back");
-    file[0] = 2;
+    check(got.along_row == 200 && got.along_column == 300, "with its spacings");
+    file[0] = SN_FILE_VERSION_1;
     got = sn_read_survey(file, SN_FILE_SIZE(2, 2), back, 4);
-    check(got.code == SN_BAD_VERSION, "version 2");
+    check(got.code == SN_BAD_COUNT, "taken for version 1");
+    file[0] = 3;
+    got = sn_read_survey(file, SN_FILE_SIZE(2, 2), back, 4);
+    check(got.code == SN_BAD_VERSION, "version 3");
     free(heights);
     free(file);
 }
@@ -499,8 +660,8 @@ static void parts(const plot *p, const sheet *s)
     uint8_t *bytes = lent_sheet(s);
     uint16_t *dales = (uint16_t *)lent(n * sizeof *dales, NULL);
     uint16_t *hills = (uint16_t *)lent(n * sizeof *hills, NULL);
-    sn_answer got = sn_dales_and_hills(bytes, s->length, p->rows, p->columns, p->heights, n,
-                                       dales, n, hills, n);
+    sn_answer got = sn_dales_and_hills(bytes, s->length, p->rows, p->columns, p->along_row,
+                                       p->along_column, p->heights, n, dales, n, hills, n);
 
     check(got.code == SN_OK && got.place == 0, p->name);
     check(memcmp(dales, p->dales, n * sizeof *dales) == 0, p->name);
@@ -514,20 +675,21 @@ static void parts(const plot *p, const sheet *s)
 static void next(const plot *p, uint32_t post, uint32_t down, uint32_t up, const char *what)
 {
     const sheet *s = meaning(p->rule);
-    sn_next got = sn_next_down(s->bytes, s->length, p->rows, p->columns, p->heights, posts_of(p),
-                               post);
+    sn_next got = sn_next_down(s->bytes, s->length, p->rows, p->columns, p->along_row,
+                               p->along_column, p->heights, posts_of(p), post);
 
     check(got.code == SN_OK && got.place == 0 && got.post == down, what);
-    got = sn_next_up(s->bytes, s->length, p->rows, p->columns, p->heights, posts_of(p), post);
+    got = sn_next_up(s->bytes, s->length, p->rows, p->columns, p->along_row, p->along_column,
+                     p->heights, posts_of(p), post);
     check(got.code == SN_OK && got.place == 0 && got.post == up, what);
 }
 
 static void walks(void)
 {
-    sn_next up = sn_next_up(SN_NO_SHEET, 3, 3, hollow.heights, 9, 9);
+    sn_next up = sn_next_up(SN_NO_SHEET, 3, 3, EQUAL, hollow.heights, 9, 9);
 
     check(up.code == SN_NO_SUCH_POST && up.post == 0, "no such post");
-    next(&hollow, 4, 4, 8, "a pit stays, and rises to the last corner");
+    next(&hollow, 4, 4, 7, "a pit stays, and rises to the last of the nearest");
     next(&hollow, 5, V, 8, "from the border");
     next(&hollow, 8, V, 8, "a peak stays");
     next(&hollow, 0, V, 3, "from a corner to its last neighbour");
@@ -545,6 +707,10 @@ static void walks(void)
     next(&level_2, 4, 1, 8, "the middle by rule 2");
     next(&level, 5, V, 8, "from an odd row to the last of the next");
     next(&level, 3, V, 6, "and from its end to the first of the next");
+    next(&slant, 4, 5, 3, "steepest, not lowest");
+    next(&slant_wide, 4, 8, 1, "by a wider spacing to the corner");
+    next(&turn, 5, 6, 4, "to the pit");
+    next(&turn_wide, 5, 9, 1, "turned");
 }
 
 /* What a sheet says, into lists of three lengths: 13 and 14 go before 3. */
@@ -570,10 +736,11 @@ static void settings(const sheet *s)
 }
 
 /* A sheet that is refused is refused by every call that takes one, whatever else is wrong:
-   the first time nothing is, then the post and the run, then the sides and all lists. */
+   the first time nothing is, then the post and the run, then the sides, a spacing and all
+   lists. */
 static void refused_sheet(const sheet *s)
 {
-    static const uint32_t rows[3] = {2, 2, 1}, posts[3] = {2, 9, 9};
+    static const uint32_t rows[3] = {2, 2, 1}, along_row[3] = {100, 100, 0}, posts[3] = {2, 9, 9};
     static const size_t lengths[3] = {4, 4, 3};
     uint8_t *b = lent_sheet(s), marks[4] = {7, 7, 7, 7}, ring_list[SN_RING_LENGTH] = {7};
     int32_t heights[4] = {5, 0, 0, 5};
@@ -581,14 +748,14 @@ static void refused_sheet(const sheet *s)
     int i;
 
     for (i = 0; i < 3; i++) {
-        uint32_t r = rows[i], p = posts[i];
+        uint32_t r = rows[i], a = along_row[i], p = posts[i];
         size_t n = lengths[i], l = s->length;
         sn_counts counts = sn_survey(b, l, r, 2, heights, n, marks, n);
         sn_ring_mark shown = sn_ring(b, l, r, 2, heights, n, p, ring_list, 2 * n);
-        sn_next down = sn_next_down(b, l, r, 2, heights, n, p);
-        sn_next up = sn_next_up(b, l, r, 2, heights, n, p);
-        sn_entries water = sn_thalweg(b, l, r, 2, heights, n, p, p, dales, n);
-        sn_entries crest = sn_ridge(b, l, r, 2, heights, n, p, p, hills, n);
+        sn_next down = sn_next_down(b, l, r, 2, a, 100, heights, n, p);
+        sn_next up = sn_next_up(b, l, r, 2, a, 100, heights, n, p);
+        sn_entries water = sn_thalweg(b, l, r, 2, a, 100, heights, n, p, p, dales, n);
+        sn_entries crest = sn_ridge(b, l, r, 2, a, 100, heights, n, p, p, hills, n);
         check(counts.code == s->code && !counts.place && !counts.pits, "survey, its sheet");
         check(sn_reshoot(b, l, r, 2, heights, n, marks, n, p, 1).code == s->code,
               "re-shoot, its sheet");
@@ -597,8 +764,8 @@ static void refused_sheet(const sheet *s)
         check(up.code == s->code && !up.place && !up.post, "next up, its sheet");
         check(water.code == s->code && !water.place && !water.count, "thalweg, its sheet");
         check(crest.code == s->code && !crest.place && !crest.count, "ridge, its sheet");
-        check(sn_dales_and_hills(b, l, r, 2, heights, n, dales, n, hills, n).code == s->code,
-              "dales and hills, their sheet");
+        check(sn_dales_and_hills(b, l, r, 2, a, 100, heights, n, dales, n, hills, n).code ==
+              s->code, "dales and hills, their sheet");
     }
     check(memcmp(heights, crossed.heights, sizeof heights) == 0, "no height is changed");
     for (i = 0; i < 4; i++)
@@ -610,7 +777,8 @@ static void refused_sheet(const sheet *s)
 int main(void)
 {
     const plot *const plots[PLOTS] = {&flat, &crossed, &star, &hollow, &runs, &level,
-                                      &flat_2, &crossed_2, &star_2, &hollow_2, &level_2};
+                                      &flat_2, &crossed_2, &star_2, &hollow_2, &level_2,
+                                      &slant, &slant_wide, &turn, &turn_wide};
     int i, j;
 
     for (j = 0; j < SHEETS; j++) {
@@ -628,7 +796,11 @@ int main(void)
     refused_rings();
     lines();
     lines_2();
-    files();
+    lines_turned();
+    spacings();
+    files(header_1, sizeof header_1, SN_FILE_SPACING_1, SN_FILE_SPACING_1);
+    files(header_2, sizeof header_2, SN_MAX_SPACING, SN_MIN_SPACING);
+    short_files();
     round_trip();
     sides();
     walks();

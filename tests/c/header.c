@@ -1,7 +1,7 @@
 /*
  * What the header has beside the calls: version, sizes, codes in words, what a mark
- * says, a ring's codes, and a sheet's numbers. Compiles as C89 and later and as C++, and so
- * without a C cast.
+ * says, a ring's codes, and the numbers of files, spacings and sheets. Compiles as C89 and
+ * later and as C++, and so without a C cast.
  */
 #include "surface_network.h"
 
@@ -31,8 +31,22 @@ static void sizes(void)
     check(sizeof(largest_file) == SN_MAX_FILE, "the largest file");
     check(SN_MAX_POSTS == SN_MAX_SIDE * SN_MAX_SIDE, "posts");
     check(SN_MAX_LINE == SN_MAX_POSTS + 1, "entries of a line");
-    check(SN_FILE_SIZE(rows, columns) == 55, "the file of 3 by 4 posts");
-    check(SN_FILE_SIZE(side, side + 1) == 31, "the file of 2 by 3 posts");
+    check(SN_FILE_SIZE(rows, columns) == 59, "the file of 3 by 4 posts");
+    check(SN_FILE_SIZE(side, side + 1) == 35, "the file of 2 by 3 posts");
+    check(SN_FILE_VERSION == 2 && SN_FILE_HEADER == 11, "what a file begins with");
+    check(SN_FILE_VERSION_1 == 1 && SN_FILE_HEADER_1 == 7 && SN_FILE_SPACING_1 == 100,
+          "and one of version 1");
+}
+
+/* The numbers of spacings, and the answer of a file, which is six words and no more. */
+static void spacings_alone(void)
+{
+    check(SN_MIN_SPACING == 1 && SN_MAX_SPACING == 1000, "the range of a spacing");
+    check(offsetof(sn_size, code) == 0 && offsetof(sn_size, place) == 4, "code and place");
+    check(offsetof(sn_size, rows) == 8 && offsetof(sn_size, columns) == 12, "rows and columns");
+    check(offsetof(sn_size, along_row) == 16 && offsetof(sn_size, along_column) == 20,
+          "spacings");
+    check(sizeof(sn_size) == 24, "the size of a file's answer");
 }
 
 static void version(void)
@@ -47,16 +61,19 @@ static void codes(void)
 {
     uint32_t code, other;
 
-    for (code = 0; code <= SN_BAD_ENTRY + 1; code++) {
+    for (code = 0; code <= SN_BAD_SPACING + 1; code++) {
         check(strlen(sn_code_text(code)) > 5, "a code has words");
         for (other = 0; other < code; other++)
             check(strcmp(sn_code_text(code), sn_code_text(other)) != 0, "words of its own");
     }
-    check(strcmp(sn_code_text(SN_BAD_ENTRY + 1), sn_code_text(UINT32_MAX)) == 0, "no such code");
+    check(strcmp(sn_code_text(SN_BAD_SPACING + 1), sn_code_text(UINT32_MAX)) == 0, "no such code");
     check(SN_BAD_SHEET == 13 && SN_BAD_ENTRY == 14, "the codes of a sheet");
     check(strcmp(sn_code_text(13), "the settings sheet is damaged or of another version") == 0, "words of 13");
     check(strcmp(sn_code_text(14), "the settings sheet has an entry that it may not have") == 0,
           "words of 14");
+    check(SN_BAD_SPACING == 15, "the code of a spacing");
+    check(strcmp(sn_code_text(15), "a spacing is outside 1 to 1,000 centimetres") == 0,
+          "words of 15");
 }
 
 /* The numbers of a sheet; its answer is four words and no more. */
@@ -114,8 +131,8 @@ static void lines_of(const int32_t *heights, uint32_t post, uint8_t mark)
     sn_entries down, up;
 
     for (run = 0; run <= runs; run++) {
-        down = sn_thalweg(SN_NO_SHEET, 3, 3, heights, 9, post, run, line, 10);
-        up = sn_ridge(SN_NO_SHEET, 3, 3, heights, 9, post, run, line, 10);
+        down = sn_thalweg(SN_NO_SHEET, 3, 3, 100, 100, heights, 9, post, run, line, 10);
+        up = sn_ridge(SN_NO_SHEET, 3, 3, 100, 100, heights, 9, post, run, line, 10);
         check(down.code == (run < runs ? 0 : end), "a thalweg for each run");
         check(up.code == (run < runs ? 0 : end), "a ridge for each run");
     }
@@ -183,6 +200,7 @@ int main(void)
     static const int32_t pit[9] = {1, 1, 1, 1, 0, 1, 1, 1, 1};
 
     sizes();
+    spacings_alone();
     version();
     codes();
     marks_alone();

@@ -21,14 +21,16 @@ int main(void)
     sum += sn_reshoot(sheet, LENGTH(6), 3, 3, heights, LENGTH(7), marks, LENGTH(8), 0, 0).code;
     sum += sn_ring(sheet, LENGTH(9), 3, 3, heights, LENGTH(10), 0, ring,
                    LENGTH_OF(11, SN_RING_LENGTH)).code;
-    sum += sn_next_down(sheet, LENGTH(12), 3, 3, heights, LENGTH(13), 0).code;
-    sum += sn_next_up(sheet, LENGTH(14), 3, 3, heights, LENGTH(15), 0).code;
-    sum += sn_thalweg(sheet, LENGTH(16), 3, 3, heights, LENGTH(17), 0, 0, line, LENGTH(18)).code;
-    sum += sn_ridge(sheet, LENGTH(19), 3, 3, heights, LENGTH(20), 0, 0, line, LENGTH(21)).code;
-    sum += sn_dales_and_hills(sheet, LENGTH(22), 3, 3, heights, LENGTH(23), dales, LENGTH(24),
-                              hills, LENGTH(25)).code;
+    sum += sn_next_down(sheet, LENGTH(12), 3, 3, 1, 1, heights, LENGTH(13), 0).code;
+    sum += sn_next_up(sheet, LENGTH(14), 3, 3, 1, 1, heights, LENGTH(15), 0).code;
+    sum += sn_thalweg(sheet, LENGTH(16), 3, 3, 1, 1, heights, LENGTH(17), 0, 0, line,
+                      LENGTH(18)).code;
+    sum += sn_ridge(sheet, LENGTH(19), 3, 3, 1, 1, heights, LENGTH(20), 0, 0, line,
+                    LENGTH(21)).code;
+    sum += sn_dales_and_hills(sheet, LENGTH(22), 3, 3, 1, 1, heights, LENGTH(23), dales,
+                              LENGTH(24), hills, LENGTH(25)).code;
     sum += sn_read_survey(file, LENGTH(26), heights, LENGTH(27)).code;
-    sum += sn_write_survey(3, 3, heights, LENGTH(28), file, LENGTH(29)).code;
+    sum += sn_write_survey(3, 3, 1, 1, heights, LENGTH(28), file, LENGTH(29)).code;
     sum += sn_survey(SN_NO_SHEET, 3, 3, heights, 9, MISTAKE == 30 ? NULL : marks, 9).code;
     sum += sn_ring(SN_NO_SHEET, 3, 3, heights, 9, 0, MISTAKE == 31 ? NULL : ring,
                    SN_RING_LENGTH).code;

@@ -23,6 +23,9 @@ static uint8_t sheet[] = {SN_SHEET_VERSION, 0, 0, 0, 8, SN_ENTRY_RULE, 1, SN_THR
                           SN_ENTRY_NAME, 3, 'd', 'a', 'm'};
 #define SHEET sheet, sizeof sheet
 
+/* By these a diagonal can be as steep as a side. */
+#define SPACINGS 3, 4
+
 static void settings(void)
 {
     code = sn_settings(SHEET, name, SN_MAX_NAME).code;
@@ -45,32 +48,34 @@ static void ring_of_post(void)
 
 static void next_down(void)
 {
-    code = sn_next_down(SHEET, SIDE, SIDE, heights, POSTS, post).code;
+    code = sn_next_down(SHEET, SIDE, SIDE, SPACINGS, heights, POSTS, post).code;
 }
 
 static void next_up(void)
 {
-    code = sn_next_up(SHEET, SIDE, SIDE, heights, POSTS, post).code;
+    code = sn_next_up(SHEET, SIDE, SIDE, SPACINGS, heights, POSTS, post).code;
 }
 
 static void thalweg(void)
 {
-    code = sn_thalweg(SHEET, SIDE, SIDE, heights, POSTS, post, 0, line, SN_MAX_LINE).code;
+    code = sn_thalweg(SHEET, SIDE, SIDE, SPACINGS, heights, POSTS, post, 0, line,
+                      SN_MAX_LINE).code;
 }
 
 static void ridge(void)
 {
-    code = sn_ridge(SHEET, SIDE, SIDE, heights, POSTS, post, 0, line, SN_MAX_LINE).code;
+    code = sn_ridge(SHEET, SIDE, SIDE, SPACINGS, heights, POSTS, post, 0, line, SN_MAX_LINE).code;
 }
 
 static void parts(void)
 {
-    code = sn_dales_and_hills(SHEET, SIDE, SIDE, heights, POSTS, dales, POSTS, hills, POSTS).code;
+    code = sn_dales_and_hills(SHEET, SIDE, SIDE, SPACINGS, heights, POSTS, dales, POSTS, hills,
+                              POSTS).code;
 }
 
 static void write_file(void)
 {
-    code = sn_write_survey(SIDE, SIDE, heights, POSTS, file, SN_MAX_FILE).code;
+    code = sn_write_survey(SIDE, SIDE, SPACINGS, heights, POSTS, file, SN_MAX_FILE).code;
 }
 
 static void read_file(void)
@@ -128,7 +133,7 @@ int main(void)
         sheet[RULE_PLACE] = k < 3 ? SN_THROUGH_LOWEST : SN_THROUGH_HIGHEST;
         fill(kinds[k % 3]);
         for (i = 0; i < CALLS; i++) {
-            code = SN_BAD_ENTRY;
+            code = SN_BAD_SPACING;
             bytes = taken(calls[i].call);
             most = bytes > most ? bytes : most;
             if (code == SN_OK && bytes < BOUND) {

@@ -2,7 +2,7 @@
 
 use crate::opinion::{self, Given};
 use crate::sheet;
-use crate::surface::{Rule, Way};
+use crate::surface::{Rule, Spacings, Way};
 use std::fmt;
 
 #[derive(Clone, Copy, PartialEq, Eq, Debug, Default)]
@@ -43,6 +43,18 @@ impl Kind {
     pub fn takes_sheet(self) -> bool {
         self == Kind::Settings || self.needs_diagonals()
     }
+
+    pub fn takes_spacings(self) -> bool {
+        matches!(
+            self,
+            Kind::NextDown
+                | Kind::NextUp
+                | Kind::Thalweg
+                | Kind::Ridge
+                | Kind::DalesAndHills
+                | Kind::WriteSurvey
+        )
+    }
 }
 
 /// Arguments that a kind has no use for stay empty or 0.
@@ -53,6 +65,7 @@ pub struct Call {
     pub name: Vec<u8>,
     pub rows: u32,
     pub columns: u32,
+    pub spacings: Spacings,
     pub heights: Vec<i32>,
     pub marks: Vec<u8>,
     pub post: u32,
@@ -68,7 +81,7 @@ pub struct Call {
 impl Call {
     /// The answer by docs/SPECIFICATION.md; the lists become what the call must leave.
     pub fn by_opinion(&mut self) -> Vec<u32> {
-        let Call { kind, rows, columns, post, height, run, .. } = *self;
+        let Call { kind, rows, columns, spacings, post, height, run, .. } = *self;
         let Call { sheet, name, heights, marks, ring, line, dales, hills, file, .. } = self;
         let given = Given { sheet, rows, columns, heights };
         match kind {
@@ -78,13 +91,15 @@ impl Call {
                 opinion::reshoot(sheet, rows, columns, heights, marks, post, height).to_vec()
             }
             Kind::Ring => opinion::ring(given, post, ring).to_vec(),
-            Kind::NextDown => opinion::next(Way::Down, given, post).to_vec(),
-            Kind::NextUp => opinion::next(Way::Up, given, post).to_vec(),
-            Kind::Thalweg => opinion::line(Way::Down, given, post, run, line).to_vec(),
-            Kind::Ridge => opinion::line(Way::Up, given, post, run, line).to_vec(),
-            Kind::DalesAndHills => opinion::dales_and_hills(given, dales, hills).to_vec(),
+            Kind::NextDown => opinion::next(Way::Down, given, spacings, post).to_vec(),
+            Kind::NextUp => opinion::next(Way::Up, given, spacings, post).to_vec(),
+            Kind::Thalweg => opinion::line(Way::Down, given, spacings, post, run, line).to_vec(),
+            Kind::Ridge => opinion::line(Way::Up, given, spacings, post, run, line).to_vec(),
+            Kind::DalesAndHills => opinion::dales_and_hills(given, spacings, dales, hills).to_vec(),
             Kind::ReadSurvey => opinion::read_survey(file, heights).to_vec(),
-            Kind::WriteSurvey => opinion::write_survey(rows, columns, heights, file).to_vec(),
+            Kind::WriteSurvey => {
+                opinion::write_survey(rows, columns, spacings, heights, file).to_vec()
+            }
         }
     }
 
@@ -134,11 +149,14 @@ impl fmt::Display for Call {
     fn fmt(&self, f: &mut fmt::Formatter) -> fmt::Result {
         write!(
             f,
-            "{:?}, rows {}, columns {}, post {}, height {}, run {}; lengths: sheet {}, name {}, \
-             heights {}, marks {}, ring {}, line {}, dales {}, hills {}, file {}",
+            "{:?}, rows {}, columns {}, along row {}, along column {}, post {}, height {}, run {}; \
+             lengths: sheet {}, name {}, heights {}, marks {}, ring {}, line {}, dales {}, \
+             hills {}, file {}",
             self.kind,
             self.rows,
             self.columns,
+            self.spacings.along_row,
+            self.spacings.along_column,
             self.post,
             self.height,
             self.run,

@@ -8,11 +8,12 @@ mod patterns;
 mod refusals;
 mod series;
 mod sheets;
+mod slopes;
 mod ties;
 mod whole_plots;
 
 use crate::call::{Call, Kind};
-use crate::plots::Chance;
+use crate::plots::{any_spacings, Chance};
 use crate::samples::any_meaning;
 use crate::surface::{Plot, Way};
 use crate::tester::{law, Outcome, Tester};
@@ -24,6 +25,7 @@ pub fn all(t: &mut Tester, chance: &mut Chance, long: bool) {
     refusals::refusals(t, chance, 12 * times);
     refusals::ring_lists(t, chance);
     bounds::sides(t, chance);
+    bounds::spacings(t, chance);
     bounds::heights(t, chance);
     bounds::posts_and_runs(t, chance);
     bounds::lengths(t, chance);
@@ -32,8 +34,10 @@ pub fn all(t: &mut Tester, chance: &mut Chance, long: bool) {
     files::round_trip(t, chance, 300 * times);
     files::every_tenth(t);
     files::every_filed_height(t);
+    files::every_version(t);
     files::every_damage(t);
     files::damaged_by_chance(t, chance, 3000 * times);
+    slopes::all(t, chance, times);
     series::never_surveyed(t, chance, 2000 * times);
     whole_plots::small_random(t, chance, 4000 * times);
     series::series(t, chance, times);
@@ -41,20 +45,23 @@ pub fn all(t: &mut Tester, chance: &mut Chance, long: bool) {
     whole_plots::exhaustive(t, chance, long);
     whole_plots::upside_down(t, chance, 1000 * times);
     whole_plots::every_post(t, chance, long);
-    whole_plots::large_random(t, chance, 12 * times);
+    whole_plots::large_random(t, chance, 10 * times);
 }
 
 const WAYS: [(Way, Kind, Kind); 2] =
     [(Way::Down, Kind::NextDown, Kind::Thalweg), (Way::Up, Kind::NextUp, Kind::Ridge)];
 
-/// A call of a kind that is accepted, with any sheet that means the plot's rule, and lists
-/// of their right size and any content. A line call takes the first saddle, if there is one.
+/// A call of a kind that is accepted, with any sheet that means the plot's rule, any spacings,
+/// and lists of their right size and any content. A line call takes the first saddle, if there is one.
 fn good(kind: Kind, plot: &Plot, chance: &mut Chance) -> Call {
     let posts = plot.posts();
     let mut call = Call { kind, heights: plot.heights.to_vec(), ..Call::default() };
     (call.rows, call.columns) = (plot.rows as u32, plot.columns as u32);
     if kind.takes_sheet() {
         call.sheet = any_meaning(plot.rule, chance);
+    }
+    if kind.takes_spacings() {
+        call.spacings = any_spacings(chance);
     }
     match kind {
         Kind::Settings => return sheets::settings(call.sheet, chance),
@@ -78,7 +85,7 @@ fn good(kind: Kind, plot: &Plot, chance: &mut Chance) -> Call {
             call.hills = chance.shorts(posts);
         }
         Kind::ReadSurvey => return files::filed(plot, chance),
-        Kind::WriteSurvey => call.file = chance.bytes(7 + 4 * posts),
+        Kind::WriteSurvey => call.file = chance.bytes(11 + 4 * posts),
     }
     call
 }

@@ -2,6 +2,7 @@
 //! byte read or written out of bounds ends the program.
 
 use crate::call::{Call, Kind};
+use crate::surface::Spacings;
 use std::ffi::{c_int, c_void};
 use std::ptr::null_mut;
 
@@ -18,7 +19,7 @@ struct Next([u32; 3]);
 #[repr(C)]
 struct Entries([u32; 3]);
 #[repr(C)]
-struct Size([u32; 4]);
+struct Size([u32; 6]);
 
 extern "C" {
     fn sn_settings(sheet: *const u8, sn: usize, name: *mut u8, nn: usize) -> Sheet;
@@ -60,6 +61,8 @@ extern "C" {
         sn: usize,
         rows: u32,
         columns: u32,
+        along_row: u32,
+        along_column: u32,
         h: *const i32,
         hn: usize,
         post: u32,
@@ -69,6 +72,8 @@ extern "C" {
         sn: usize,
         rows: u32,
         columns: u32,
+        along_row: u32,
+        along_column: u32,
         h: *const i32,
         hn: usize,
         post: u32,
@@ -78,6 +83,8 @@ extern "C" {
         sn: usize,
         rows: u32,
         columns: u32,
+        along_row: u32,
+        along_column: u32,
         h: *const i32,
         hn: usize,
         post: u32,
@@ -90,6 +97,8 @@ extern "C" {
         sn: usize,
         rows: u32,
         columns: u32,
+        along_row: u32,
+        along_column: u32,
         h: *const i32,
         hn: usize,
         post: u32,
@@ -102,6 +111,8 @@ extern "C" {
         sn: usize,
         rows: u32,
         columns: u32,
+        along_row: u32,
+        along_column: u32,
         h: *const i32,
         hn: usize,
         dales: *mut u16,
@@ -113,6 +124,8 @@ extern "C" {
     fn sn_write_survey(
         rows: u32,
         columns: u32,
+        along_row: u32,
+        along_column: u32,
         h: *const i32,
         hn: usize,
         file: *mut u8,
@@ -202,6 +215,7 @@ unsafe fn answer(call: &Call, lent: &Lent) -> Vec<u32> {
     let Lent { sheet, name, heights, marks, ring, line, dales, hills, file } = *lent;
     let (r, c, p, run) = (call.rows, call.columns, call.post, call.run);
     let (s, sn, nn) = (sheet.cast_const(), call.sheet.len(), call.name.len());
+    let Spacings { along_row: ar, along_column: ac } = call.spacings;
     let (h, hn) = (heights.cast_const(), call.heights.len());
     let (mn, rn, ln) = (call.marks.len(), call.ring.len(), call.line.len());
     let (dn, pn, fl) = (call.dales.len(), call.hills.len(), call.file.len());
@@ -210,15 +224,15 @@ unsafe fn answer(call: &Call, lent: &Lent) -> Vec<u32> {
         Kind::Survey => sn_survey(s, sn, r, c, h, hn, marks, mn).0.to_vec(),
         Kind::Reshoot => sn_reshoot(s, sn, r, c, heights, hn, marks, mn, p, call.height).0.to_vec(),
         Kind::Ring => sn_ring(s, sn, r, c, h, hn, p, ring, rn).0.to_vec(),
-        Kind::NextDown => sn_next_down(s, sn, r, c, h, hn, p).0.to_vec(),
-        Kind::NextUp => sn_next_up(s, sn, r, c, h, hn, p).0.to_vec(),
-        Kind::Thalweg => sn_thalweg(s, sn, r, c, h, hn, p, run, line, ln).0.to_vec(),
-        Kind::Ridge => sn_ridge(s, sn, r, c, h, hn, p, run, line, ln).0.to_vec(),
+        Kind::NextDown => sn_next_down(s, sn, r, c, ar, ac, h, hn, p).0.to_vec(),
+        Kind::NextUp => sn_next_up(s, sn, r, c, ar, ac, h, hn, p).0.to_vec(),
+        Kind::Thalweg => sn_thalweg(s, sn, r, c, ar, ac, h, hn, p, run, line, ln).0.to_vec(),
+        Kind::Ridge => sn_ridge(s, sn, r, c, ar, ac, h, hn, p, run, line, ln).0.to_vec(),
         Kind::DalesAndHills => {
-            sn_dales_and_hills(s, sn, r, c, h, hn, dales, dn, hills, pn).0.to_vec()
+            sn_dales_and_hills(s, sn, r, c, ar, ac, h, hn, dales, dn, hills, pn).0.to_vec()
         }
         Kind::ReadSurvey => sn_read_survey(file, fl, heights, hn).0.to_vec(),
-        Kind::WriteSurvey => sn_write_survey(r, c, h, hn, file, fl).0.to_vec(),
+        Kind::WriteSurvey => sn_write_survey(r, c, ar, ac, h, hn, file, fl).0.to_vec(),
     }
 }
 

@@ -2,7 +2,7 @@
 
 use crate::opinion::read_survey;
 use crate::sheet;
-use crate::surface::{counts, Plot, Way, VIRTUAL_PIT};
+use crate::surface::{counts, Plot, Spacings, Way, VIRTUAL_PIT};
 use std::fmt::Write as _;
 use std::fs::File;
 use std::io::{self, ErrorKind, Read as _, Write as _};
@@ -10,7 +10,7 @@ use std::path::Path;
 use std::process::{Command, Stdio};
 
 /// The lister reads no more of its input than this, nor of the settings.
-const INPUT: usize = 57_608;
+const INPUT: usize = 57_612;
 const SETTINGS: usize = 43;
 
 /// The file of the settings, in the folder where the lister runs.
@@ -38,10 +38,11 @@ pub fn listing(settings: &[u8], input: &[u8]) -> String {
         _ => (0, 0),
     };
     let mut heights = vec![0; rows * columns];
-    let [code, place, ..] = read_survey(file, &mut heights);
+    let [code, place, _, _, along_row, along_column] = read_survey(file, &mut heights);
     if code != 0 {
         return format!("E {code} {place}\n");
     }
+    let spacings = Spacings { along_row, along_column };
     let plot = Plot { rule, rows, columns, heights: &heights };
     let [peaks, pits, saddles] = counts(&plot.marks());
     let mut text = format!("N {rows} {columns} {peaks} {pits} {saddles}\n");
@@ -49,7 +50,7 @@ pub fn listing(settings: &[u8], input: &[u8]) -> String {
         for (letter, way) in [('T', Way::Down), ('R', Way::Up)] {
             for (number, run) in plot.runs(saddle, way).iter().enumerate() {
                 // The lister takes its ends from dales and hills; here each line is walked.
-                let line = plot.line(saddle, way, run);
+                let line = plot.line(saddle, way, run, spacings);
                 let end = match line[line.len() - 1] {
                     VIRTUAL_PIT => "V".to_string(),
                     post => post.to_string(),

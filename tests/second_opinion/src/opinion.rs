@@ -2,7 +2,7 @@
 //! list is handed in as lent and comes back as the call must leave it.
 
 use crate::sheet;
-use crate::surface::{counts, Plot, Way, VIRTUAL_PIT};
+use crate::surface::{counts, Plot, Rule, Spacings, Way, VIRTUAL_PIT};
 
 /// Number and place.
 pub type Refusal = (u32, u32);
@@ -20,6 +20,15 @@ fn row_1(rows: u32, columns: u32) -> Result<(), Refusal> {
         Ok(())
     } else {
         Err((1, 0))
+    }
+}
+
+fn row_15(spacings: Spacings) -> Result<(), Refusal> {
+    let good = 1..=1000;
+    if good.contains(&spacings.along_row) && good.contains(&spacings.along_column) {
+        Ok(())
+    } else {
+        Err((15, 0))
     }
 }
 
@@ -64,13 +73,28 @@ pub struct Given<'a> {
 }
 
 impl<'a> Given<'a> {
-    /// The plot, by the sheet's rule, which is judged before anything else.
-    fn plot(&self) -> Result<Plot<'a>, Refusal> {
-        let Given { sheet, rows, columns, heights } = *self;
-        let rule = sheet::read(sheet)?.rule;
-        row_1(rows, columns)?;
+    /// The sheet's rule, which is judged before anything else; then the sides are.
+    fn rule(&self) -> Result<Rule, Refusal> {
+        let rule = sheet::read(self.sheet)?.rule;
+        row_1(self.rows, self.columns)?;
+        Ok(rule)
+    }
+
+    fn by_rule(&self, rule: Rule) -> Result<Plot<'a>, Refusal> {
+        let Given { rows, columns, heights, .. } = *self;
         row_2(rows, columns, heights)?;
         Ok(Plot { rule, rows: rows as usize, columns: columns as usize, heights })
+    }
+
+    fn plot(&self) -> Result<Plot<'a>, Refusal> {
+        self.by_rule(self.rule()?)
+    }
+
+    /// The plot of a call that takes spacings.
+    fn spaced(&self, spacings: Spacings) -> Result<Plot<'a>, Refusal> {
+        let rule = self.rule()?;
+        row_15(spacings)?;
+        self.by_rule(rule)
     }
 }
 
@@ -148,18 +172,25 @@ pub fn ring(given: Given, post: u32, list: &mut [u8]) -> [u32; 4] {
     })())
 }
 
-pub fn next(way: Way, given: Given, post: u32) -> [u32; 3] {
+pub fn next(way: Way, given: Given, spacings: Spacings, post: u32) -> [u32; 3] {
     answer((|| {
-        let plot = given.plot()?;
+        let plot = given.spaced(spacings)?;
         row_4(plot.heights, HEIGHT)?;
         row_5(post, &plot)?;
-        Ok(vec![plot.next(post as usize, way) as u32])
+        Ok(vec![plot.next(post as usize, way, spacings) as u32])
     })())
 }
 
-pub fn line(way: Way, given: Given, post: u32, run: u32, list: &mut [u16]) -> [u32; 3] {
+pub fn line(
+    way: Way,
+    given: Given,
+    spacings: Spacings,
+    post: u32,
+    run: u32,
+    list: &mut [u16],
+) -> [u32; 3] {
     answer((|| {
-        let plot = given.plot()?;
+        let plot = given.spaced(spacings)?;
         row_4(plot.heights, HEIGHT)?;
         row_5(post, &plot)?;
         if !plot.is_saddle(post as usize) {
@@ -167,7 +198,7 @@ pub fn line(way: Way, given: Given, post: u32, run: u32, list: &mut [u16]) -> [u
         }
         let runs = plot.runs(post as usize, way);
         let members = runs.get(run as usize).ok_or((8, 0))?;
-        let line = plot.line(post as usize, way, members);
+        let line = plot.line(post as usize, way, members, spacings);
         if line.len() > list.len() {
             return Err((9, 0));
         }
@@ -178,14 +209,19 @@ pub fn line(way: Way, given: Given, post: u32, run: u32, list: &mut [u16]) -> [u
     })())
 }
 
-pub fn dales_and_hills(given: Given, dales: &mut [u16], hills: &mut [u16]) -> [u32; 2] {
+pub fn dales_and_hills(
+    given: Given,
+    spacings: Spacings,
+    dales: &mut [u16],
+    hills: &mut [u16],
+) -> [u32; 2] {
     answer((|| {
-        let plot = given.plot()?;
+        let plot = given.spaced(spacings)?;
         row_3(dales.len(), plot.posts())?;
         row_3(hills.len(), plot.posts())?;
         row_4(plot.heights, HEIGHT)?;
         for (list, way) in [(dales, Way::Down), (hills, Way::Up)] {
-            for (entry, end) in list.iter_mut().zip(plot.ends(way)) {
+            for (entry, end) in list.iter_mut().zip(plot.ends(way, spacings)) {
                 *entry = end as u16;
             }
         }
@@ -199,53 +235,87 @@ fn rounded(tenths: i32) -> i32 {
     (about - 1..=about + 1).min_by_key(|mm| ((10 * mm - tenths).abs(), mm & 1)).unwrap()
 }
 
-pub fn read_survey(file: &[u8], heights: &mut [i32]) -> [u32; 4] {
+/// The spacings that a file has, and its bytes after them; before them stand the version, the
+/// count and the sides, which are there.
+fn spacings_of(file: &[u8]) -> Result<(Spacings, &[u8]), Refusal> {
+    match (file[0], &file[7..]) {
+        (1, heights) => Ok((FILED_1, heights)),
+        (2, [a, b, c, d, heights @ ..]) => {
+            let [along_row, along_column] = [[*a, *b], [*c, *d]].map(u16::from_be_bytes);
+            Ok((Spacings::of(along_row as u32, along_column as u32), heights))
+        }
+        (2, _) => Err((10, 0)),
+        _ => Err((11, 0)),
+    }
+}
+
+pub fn read_survey(file: &[u8], heights: &mut [i32]) -> [u32; 6] {
     answer((|| {
         if file.len() < 7 {
             return Err((10, 0));
         }
-        if file[0] != 1 {
-            return Err((11, 0));
-        }
+        let (spacings, filed) = spacings_of(file)?;
         let (rows, columns) = (file[5] as u32, file[6] as u32);
         row_1(rows, columns)?;
+        row_15(spacings)?;
         let stated = u32::from_be_bytes(file[1..5].try_into().unwrap()) as usize;
         let posts = (rows * columns) as usize;
-        if stated != file.len() - 5 || stated != 2 + 4 * posts {
+        let before_heights = if file[0] == 1 { 2 } else { 6 };
+        if stated != file.len() - 5 || stated != before_heights + 4 * posts {
             return Err((12, 0));
         }
         row_3(heights.len(), posts)?;
-        let tenths: Vec<i32> = file[7..]
-            .chunks(4)
-            .map(|bytes| i32::from_be_bytes(bytes.try_into().unwrap()))
-            .collect();
+        let tenths: Vec<i32> =
+            filed.chunks(4).map(|bytes| i32::from_be_bytes(bytes.try_into().unwrap())).collect();
         row_4(&tenths, TENTHS)?;
         for (height, &tenth) in heights.iter_mut().zip(&tenths) {
             *height = rounded(tenth);
         }
-        Ok(vec![rows, columns])
+        Ok(vec![rows, columns, spacings.along_row, spacings.along_column])
     })())
 }
 
-/// A survey file of these tenths, fit or not.
-pub fn file_of(rows: u8, columns: u8, tenths: &[i32]) -> Vec<u8> {
-    let mut file = vec![1];
-    file.extend((2 + 4 * tenths.len() as u32).to_be_bytes());
-    file.extend([rows, columns]);
+/// What the spacings of a file of version 1 are read as.
+pub const FILED_1: Spacings = Spacings::of(100, 100);
+
+/// A survey file of version 2 with these tenths, fit or not.
+pub fn file_of(rows: u8, columns: u8, spacings: Spacings, tenths: &[i32]) -> Vec<u8> {
+    let [along_row, along_column] =
+        [spacings.along_row, spacings.along_column].map(|s| (s as u16).to_be_bytes());
+    of_version(2, &[&[rows, columns], &along_row[..], &along_column].concat(), tenths)
+}
+
+/// The same of version 1.
+pub fn file_1_of(rows: u8, columns: u8, tenths: &[i32]) -> Vec<u8> {
+    of_version(1, &[rows, columns], tenths)
+}
+
+/// A file with these bytes between its count and its tenths.
+fn of_version(version: u8, between: &[u8], tenths: &[i32]) -> Vec<u8> {
+    let mut file = vec![version];
+    file.extend((between.len() as u32 + 4 * tenths.len() as u32).to_be_bytes());
+    file.extend(between);
     for tenth in tenths {
         file.extend(tenth.to_be_bytes());
     }
     file
 }
 
-pub fn write_survey(rows: u32, columns: u32, heights: &[i32], file: &mut [u8]) -> [u32; 2] {
+pub fn write_survey(
+    rows: u32,
+    columns: u32,
+    spacings: Spacings,
+    heights: &[i32],
+    file: &mut [u8],
+) -> [u32; 2] {
     answer((|| {
         row_1(rows, columns)?;
+        row_15(spacings)?;
         row_2(rows, columns, heights)?;
-        row_3(file.len(), 7 + 4 * heights.len())?;
+        row_3(file.len(), 11 + 4 * heights.len())?;
         row_4(heights, HEIGHT)?;
         let tenths: Vec<i32> = heights.iter().map(|h| h * 10).collect();
-        file.copy_from_slice(&file_of(rows as u8, columns as u8, &tenths));
+        file.copy_from_slice(&file_of(rows as u8, columns as u8, spacings, &tenths));
         Ok(vec![])
     })())
 }

@@ -1,4 +1,6 @@
-//! Numbers by chance, repeatable, and kinds of ground.
+//! Numbers by chance, repeatable, kinds of ground, and spacings.
+
+use crate::surface::Spacings;
 
 /// splitmix64
 pub struct Chance(pub u64);
@@ -50,8 +52,9 @@ impl Chance {
     }
 }
 
-pub const GROUNDS: [&str; 9] = [
+pub const GROUNDS: [&str; 10] = [
     "few heights",
+    "up to ten",
     "random",
     "flat",
     "near level",
@@ -69,6 +72,8 @@ pub fn ground(kind: &str, rows: usize, columns: usize, chance: &mut Chance) -> V
             let most = chance.within(1, 4);
             (0..posts).map(|_| chance.within(0, most)).collect()
         }
+        // By spacings of 3 and 4, or such, some slopes of these are equal.
+        "up to ten" => (0..posts).map(|_| chance.within(0, 10)).collect(),
         "random" => (0..posts).map(|_| chance.within(-1_000_000, 1_000_000)).collect(),
         "flat" => vec![chance.within(-1_000_000, 1_000_000); posts],
         "near level" => {
@@ -99,6 +104,18 @@ pub fn ground(kind: &str, rows: usize, columns: usize, chance: &mut Chance) -> V
         "upward spiral" => spiral(rows, columns).iter().map(|h| -h).collect(),
         _ => panic!("no such ground: {kind}"),
     }
+}
+
+/// Spacings by chance, of every sort: alike; with a diagonal that is a whole number, so that
+/// its slope can be that of a side; at the bounds; and any.
+pub fn any_spacings(chance: &mut Chance) -> Spacings {
+    let (along_row, along_column) = match chance.below(4) {
+        0 => chance.of(&[(1, 1), (100, 100), (1000, 1000)]),
+        1 => chance.of(&[(3, 4), (4, 3), (12, 5), (600, 800), (800, 600)]),
+        2 => chance.of(&[(1, 1000), (1000, 1), (999, 1000), (1, 2), (2, 1)]),
+        _ => (1 + chance.below(1000) as u32, 1 + chance.below(1000) as u32),
+    };
+    Spacings { along_row, along_column }
 }
 
 /// Tenths to add to a height, halves among them.

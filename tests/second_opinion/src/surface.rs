@@ -1,5 +1,7 @@
 //! The surface network of docs/SPECIFICATION.md, said as plainly as possible and not fast:
-//! order, edges by either rule, ring, runs, marks, walks, lines, dales and hills.
+//! order, edges by either rule, ring, runs, marks, slopes, walks, lines, dales and hills.
+
+use std::cmp::Ordering;
 
 pub const VIRTUAL_PIT: usize = 65535;
 
@@ -26,6 +28,31 @@ const NORTH: usize = 0;
 const EAST: usize = 2;
 const SOUTH: usize = 4;
 const WEST: usize = 6;
+
+/// Centimetres between neighbours in one row and between neighbours in one column.
+#[derive(Clone, Copy, PartialEq, Eq, Debug, Default)]
+pub struct Spacings {
+    pub along_row: u32,
+    pub along_column: u32,
+}
+
+impl Spacings {
+    pub const fn of(along_row: u32, along_column: u32) -> Spacings {
+        Spacings { along_row, along_column }
+    }
+}
+
+/// The square of a slope, as a fraction: of the heights' difference, and of the edge's length.
+struct Slope {
+    difference: u128,
+    length: u128,
+}
+
+impl Slope {
+    fn compare(&self, other: &Slope) -> Ordering {
+        (self.difference * other.length).cmp(&(other.difference * self.length))
+    }
+}
 
 #[derive(Clone, Copy)]
 pub struct Plot<'a> {
@@ -202,28 +229,59 @@ impl Plot<'_> {
         self.mark(post) >= 3
     }
 
+    /// The slope between two posts, by Pythagoras.
+    fn slope(&self, p: usize, q: usize, spacings: Spacings) -> Slope {
+        let rows = (p / self.columns).abs_diff(q / self.columns) as u128;
+        let columns = (p % self.columns).abs_diff(q % self.columns) as u128;
+        let across = columns * spacings.along_row as u128;
+        let along = rows * spacings.along_column as u128;
+        let difference = self.heights[p].abs_diff(self.heights[q]) as u128;
+        Slope { difference: difference.pow(2), length: across.pow(2) + along.pow(2) }
+    }
+
+    /// The steepest of these members of a post's ring, which are all this way from it: the
+    /// virtual pit if it is one of them; of equal slopes the one that is furthest this way.
+    fn steepest(&self, post: usize, way: Way, members: &[usize], spacings: Spacings) -> usize {
+        if members.contains(&VIRTUAL_PIT) {
+            return VIRTUAL_PIT;
+        }
+        let slopes: Vec<Slope> =
+            members.iter().map(|&member| self.slope(post, member, spacings)).collect();
+        let greatest = slopes.iter().max_by(|a, b| a.compare(b)).expect("a member");
+        let equal =
+            members.iter().zip(&slopes).filter(|(_, slope)| slope.compare(greatest).is_eq());
+        let steepest: Vec<usize> = equal.map(|(&member, _)| member).collect();
+        self.extreme(way, &steepest)
+    }
+
     /// Next down or next up.
-    pub fn next(&self, post: usize, way: Way) -> usize {
-        let mut candidates = self.ring(post);
-        candidates.push(post);
-        self.extreme(way, &candidates)
+    pub fn next(&self, post: usize, way: Way, spacings: Spacings) -> usize {
+        let mut members = self.ring(post);
+        members.retain(|&member| self.moves(way, post, member));
+        if members.is_empty() {
+            return post;
+        }
+        self.steepest(post, way, &members, spacings)
     }
 
     /// The line of a saddle along one run.
-    pub fn line(&self, post: usize, way: Way, run: &[usize]) -> Vec<usize> {
-        let mut line = vec![post, self.extreme(way, run)];
+    pub fn line(&self, post: usize, way: Way, run: &[usize], spacings: Spacings) -> Vec<usize> {
+        let mut line = vec![post, self.steepest(post, way, run, spacings)];
         loop {
             let last = *line.last().unwrap();
-            if last == VIRTUAL_PIT || self.next(last, way) == last {
+            if last == VIRTUAL_PIT {
                 return line;
             }
-            line.push(self.next(last, way));
+            match self.next(last, way, spacings) {
+                next if next == last => return line,
+                next => line.push(next),
+            }
         }
     }
 
     /// For each post the end of its walk: its dale, or its hill.
-    pub fn ends(&self, way: Way) -> Vec<usize> {
-        let next: Vec<usize> = (0..self.posts()).map(|p| self.next(p, way)).collect();
+    pub fn ends(&self, way: Way, spacings: Spacings) -> Vec<usize> {
+        let next: Vec<usize> = (0..self.posts()).map(|p| self.next(p, way, spacings)).collect();
         let end_of = |mut p: usize| {
             while p != VIRTUAL_PIT && next[p] != p {
                 p = next[p];

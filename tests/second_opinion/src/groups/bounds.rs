@@ -1,11 +1,12 @@
 //! Values and lengths at and beyond their bounds.
 
+use super::files::{any_file, header, read};
 use super::{good, shows_mark};
 use crate::call::{Call, Kind, KINDS};
 use crate::opinion::file_of;
 use crate::plots::{ground, Chance};
 use crate::sheet::sheet_of;
-use crate::surface::{Plot, Rule, RULES};
+use crate::surface::{Plot, Rule, Spacings, RULES};
 use crate::tester::{law, Outcome, Tester};
 
 /// Every kind of call that has a plot, by every rule; a file goes by none.
@@ -53,7 +54,7 @@ fn flat(kind: Kind, rule: Rule, rows: u32, columns: u32, chance: &mut Chance) ->
     let mut call = good(kind, &row, chance);
     (call.rows, call.columns, call.post) = (rows, columns, 0);
     if kind == Kind::ReadSurvey {
-        call.file = file_of(rows as u8, columns as u8, &vec![0; posts]);
+        call.file = any_file(rows as u8, columns as u8, &vec![0; posts], chance);
         (call.rows, call.columns) = (0, 0);
     }
     call.heights.truncate(posts);
@@ -61,6 +62,37 @@ fn flat(kind: Kind, rule: Rule, rows: u32, columns: u32, chance: &mut Chance) ->
     call.dales.truncate(posts);
     call.hills.truncate(posts);
     call
+}
+
+const SPACINGS: [u32; 13] =
+    [0, 1, 2, 255, 256, 999, 1000, 1001, 1024, 65535, 65536, 1 << 31, u32::MAX];
+
+pub fn spacings(t: &mut Tester, chance: &mut Chance) {
+    t.group("spacings at and beyond the bounds");
+    let heights = &[9, 17, 16, 15, 18, 10, 4, 14, 19, 5, 12, 13];
+    let all = || SPACINGS.into_iter().flat_map(|a| SPACINGS.map(|b| Spacings::of(a, b)));
+    for (kind, rule) in kinds_and_rules().filter(|(kind, _)| kind.takes_spacings()) {
+        let plot = Plot { rule, rows: 3, columns: 4, heights };
+        for spacings in all() {
+            spaced(t, Call { spacings, ..good(kind, &plot, chance) }, spacings);
+        }
+    }
+    // A file has two bytes for each spacing.
+    for spacings in all().filter(|s| s.along_row.max(s.along_column) <= 65535) {
+        spaced(t, read(file_of(3, 4, spacings, heights), 12), spacings);
+    }
+}
+
+/// A call with these spacings, which is good but for them.
+fn spaced(t: &mut Tester, call: Call, spacings: Spacings) {
+    let fits = [spacings.along_row, spacings.along_column].iter().all(|s| (1..=1000).contains(s));
+    t.case(t.agree(&call).and_then(|(answer, _)| {
+        let code = if fits { 0 } else { 15 };
+        law(answer[0] == code, "spacings 1 to 1,000 are accepted, others not", &call)?;
+        let told = [spacings.along_row, spacings.along_column];
+        let read = call.kind == Kind::ReadSurvey && fits;
+        law(!read || answer[4..] == told, "the spacings of the file", &call)
+    }));
 }
 
 const HEIGHTS: [i32; 12] = [
@@ -88,7 +120,8 @@ pub fn heights(t: &mut Tester, chance: &mut Chance) {
                 let mut call = good(kind, &plot, chance);
                 if kind == Kind::ReadSurvey {
                     let tenths = height.checked_mul(10).unwrap_or(height);
-                    call.file[7 + 4 * post..][..4].copy_from_slice(&tenths.to_be_bytes());
+                    let at = header(&call.file) + 4 * post;
+                    call.file[at..][..4].copy_from_slice(&tenths.to_be_bytes());
                 } else {
                     call.heights[post] = height;
                 }

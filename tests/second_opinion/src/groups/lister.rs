@@ -1,11 +1,12 @@
 //! The lister's text beside the second opinion's.
 
+use super::files::any_file;
 use crate::listing::{listing, said, Said, PLOT_SET};
-use crate::opinion::file_of;
+use crate::opinion::{file_1_of, file_of};
 use crate::plots::{ground, in_tenths, Chance, GROUNDS, UNEVEN};
 use crate::samples::{any_meaning, BAD_ENDS, BAD_ENTRIES, BAD_HEADERS, FIT};
 use crate::sheet::{around, sheet_of};
-use crate::surface::RULES;
+use crate::surface::{Spacings, RULES};
 use crate::tester::{Outcome, Tester};
 use std::os::unix::fs::symlink;
 use std::path::{Path, PathBuf};
@@ -88,10 +89,10 @@ fn agree(lister: &Path, name: &str, settings: &Settings, input: &[u8]) -> Outcom
     ))
 }
 
-/// A file of such ground, one of these tenths added to each height.
+/// A file of such ground, of either version, one of these tenths added to each height.
 fn file(kind: &str, rows: usize, columns: usize, added: &[i32], chance: &mut Chance) -> Vec<u8> {
     let heights = ground(kind, rows, columns, chance);
-    file_of(rows as u8, columns as u8, &in_tenths(&heights, added, chance))
+    any_file(rows as u8, columns as u8, &in_tenths(&heights, added, chance), chance)
 }
 
 /// No settings, or some that mean one of the rules.
@@ -128,36 +129,51 @@ fn whole_files(t: &mut Tester, lister: &Path, chance: &mut Chance, times: usize)
 
 fn damaged_files(t: &mut Tester, lister: &Path, chance: &mut Chance, times: usize) {
     t.group("listings of damaged files");
-    let good = file("few heights", 4, 5, &UNEVEN, chance);
-    for length in 0..=good.len() {
-        t.case(agree(lister, "cut short", &any_settings(chance), &good[..length]));
+    let tenths = in_tenths(&ground("few heights", 4, 5, chance), &UNEVEN, chance);
+    let files = [file_1_of(4, 5, &tenths), file_of(4, 5, Spacings::of(3, 4), &tenths)];
+    for good in &files {
+        for length in 0..=good.len() {
+            t.case(agree(lister, "cut short", &any_settings(chance), &good[..length]));
+        }
     }
-    for _ in 0..200 * times {
-        let mut bad = good.clone();
+    for i in 0..200 * times {
+        let mut bad = files[i % 2].clone();
         for _ in 0..1 + chance.below(2) {
             let at = chance.below(bad.len());
             bad[at] = chance.next() as u8;
         }
         t.case(agree(lister, "changed bytes", &any_settings(chance), &bad));
     }
-    // The largest file, and longer ones: all that is read is too long.
-    let large = file("flat", 120, 120, &[0], chance);
-    for more in [1, 2, 100_000] {
-        let mut long = large.clone();
-        long.extend(chance.bytes(more));
-        t.case(agree(lister, "too long", &any_settings(chance), &long));
+    // The largest files, and longer ones: all that is read is too long.
+    let flat = [0; 14_400];
+    for large in [file_1_of(120, 120, &flat), file_of(120, 120, Spacings::of(1, 1000), &flat)] {
+        for more in [0, 1, 2, 4, 5, 6, 100_000] {
+            let long = [&large[..], &chance.bytes(more)].concat();
+            t.case(agree(lister, "too long", &any_settings(chance), &long));
+        }
     }
 }
 
 /// Settings of every sort, with files that are listed and files that are refused.
 fn settings(t: &mut Tester, lister: &Path, chance: &mut Chance) {
     t.group("listings by settings");
-    let star = file_of(3, 3, &[0, 20, 0, 20, 10, 20, 0, 20, 0]);
+    let star = file_of(3, 3, Spacings::of(100, 100), &[0, 20, 0, 20, 10, 20, 0, 20, 0]);
     let mut out_of_range = star.clone();
-    out_of_range[7] = 127;
+    out_of_range[11] = 127;
+    let mut spacing = star.clone();
+    spacing[7] = 127;
     let large = file("few heights", 120, 120, &[0], chance);
-    let inputs =
-        [&star[..], &[], &star[..20], &[2; 7], &[1, 0, 0, 0, 0, 1, 1], &out_of_range, &large];
+    let inputs = [
+        &star[..],
+        &[],
+        &star[..20],
+        &[3; 7],
+        &[2; 7],
+        &[1, 0, 0, 0, 0, 1, 1],
+        &spacing,
+        &out_of_range,
+        &large,
+    ];
     let mut all: Vec<Vec<u8>> = FIT.iter().map(|fit| sheet_of(fit.2)).collect();
     all.extend(BAD_HEADERS.map(<[u8]>::to_vec));
     all.extend(BAD_ENDS.map(around));

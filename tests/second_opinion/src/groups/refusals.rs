@@ -1,28 +1,42 @@
 //! Every call with every set of refusals at once.
 
+use super::files::header;
 use super::good;
 use crate::call::{Call, Kind, KINDS};
 use crate::plots::{ground, Chance};
 use crate::samples::{spoil_frame, BAD_ENTRIES};
 use crate::sheet::sheet_of;
-use crate::surface::{Plot, RULES};
+use crate::surface::{Plot, Spacings, RULES};
 use crate::tester::{law, Outcome, Tester};
+
+/// Row 10 once more: a file of version 2 under 11 bytes.
+const SHORT_2: u32 = 210;
 
 /// The rows of the table that a call has a use for, the first that holds wins.
 fn table(kind: Kind) -> &'static [u32] {
     match kind {
         Kind::Settings => &[13, 14, 3],
-        Kind::Survey | Kind::DalesAndHills => &[13, 14, 1, 2, 3, 4],
+        Kind::Survey => &[13, 14, 1, 2, 3, 4],
+        Kind::DalesAndHills => &[13, 14, 1, 15, 2, 3, 4],
         Kind::Reshoot => &[13, 14, 1, 2, 3, 4, 5, 6],
         Kind::Ring => &[13, 14, 1, 2, 3, 4, 5],
-        Kind::NextDown | Kind::NextUp => &[13, 14, 1, 2, 4, 5],
-        Kind::Thalweg | Kind::Ridge => &[13, 14, 1, 2, 4, 5, 7, 8, 9],
-        Kind::ReadSurvey => &[10, 11, 1, 12, 3, 4],
-        Kind::WriteSurvey => &[1, 2, 3, 4],
+        Kind::NextDown | Kind::NextUp => &[13, 14, 1, 15, 2, 4, 5],
+        Kind::Thalweg | Kind::Ridge => &[13, 14, 1, 15, 2, 4, 5, 7, 8, 9],
+        Kind::ReadSurvey => &[10, 11, SHORT_2, 1, 15, 12, 3, 4],
+        Kind::WriteSurvey => &[1, 15, 2, 3, 4],
+    }
+}
+
+/// The number that a row of the table is answered with.
+fn code(row: u32) -> u32 {
+    match row {
+        SHORT_2 => 10,
+        code => code,
     }
 }
 
 const BAD_SIDES: [u32; 8] = [0, 1, 121, 122, 255, 65536, 1 << 31, u32::MAX];
+const BAD_SPACINGS: [u32; 6] = [0, 1001, 1002, 65535, 65536, u32::MAX];
 const BAD_HEIGHTS: [i32; 5] = [1_000_001, -1_000_001, i32::MAX, i32::MIN, 5_000_000];
 
 /// Another length than n for a list.
@@ -55,8 +69,10 @@ pub fn spoil(call: &mut Call, row: u32, chance: &mut Chance) -> u32 {
             call.line.truncate(chance.of(&[0, 1, count - 1]));
         }
         10 => call.file.truncate(chance.below(7)),
-        11 => call.file[0] = chance.of(&[0, 2, 3, 128, 255]),
+        SHORT_2 => call.file.truncate(chance.of(&[7, 8, 9, 10])),
+        11 => call.file[0] = chance.of(&[0, 3, 4, 128, 255]),
         12 => spoil_count(call, chance),
+        15 => spoil_spacings(call, chance),
         13 => spoil_frame(&mut call.sheet, chance),
         14 => call.sheet = sheet_of(chance.of(&BAD_ENTRIES)),
         _ => panic!("no such row: {row}"),
@@ -83,6 +99,23 @@ fn spoil_sides(call: &mut Call, chance: &mut Chance) {
     }
 }
 
+/// Spoils one spacing, or both; of a file of version 2, the bytes of one.
+fn spoil_spacings(call: &mut Call, chance: &mut Chance) {
+    if call.kind == Kind::ReadSurvey {
+        let bad: u16 = chance.of(&[0, 1001, 1024, 32768, 65535]);
+        let at = chance.of(&[7, 9]);
+        call.file[at..][..2].copy_from_slice(&bad.to_be_bytes());
+        return;
+    }
+    let Spacings { along_row, along_column } = call.spacings;
+    let bad = chance.of(&BAD_SPACINGS);
+    call.spacings = match chance.below(3) {
+        0 => Spacings::of(bad, along_column),
+        1 => Spacings::of(along_row, bad),
+        _ => Spacings::of(bad, chance.of(&BAD_SPACINGS)),
+    };
+}
+
 /// Resizes what is lent beside the heights, or the heights that a file is read into.
 fn spoil_lists(call: &mut Call, chance: &mut Chance) {
     match call.kind {
@@ -105,12 +138,14 @@ fn spoil_lists(call: &mut Call, chance: &mut Chance) {
 /// Spoils two heights, or one twice, and gives the first one's place.
 fn spoil_heights(call: &mut Call, chance: &mut Chance) -> u32 {
     let reading = call.kind == Kind::ReadSurvey;
-    let posts = if reading { (call.file.len() - 7) / 4 } else { call.heights.len() };
+    let posts =
+        if reading { (call.file.len() - header(&call.file)) / 4 } else { call.heights.len() };
     let places = [chance.below(posts), chance.below(posts)];
     for place in places {
         if reading {
             let tenths = chance.of(&[10_000_001, -10_000_001, i32::MAX, i32::MIN]);
-            call.file[7 + 4 * place..][..4].copy_from_slice(&tenths.to_be_bytes());
+            let at = header(&call.file) + 4 * place;
+            call.file[at..][..4].copy_from_slice(&tenths.to_be_bytes());
         } else {
             call.heights[place] = chance.of(&BAD_HEIGHTS);
         }
@@ -121,13 +156,16 @@ fn spoil_heights(call: &mut Call, chance: &mut Chance) -> u32 {
 /// Makes the stated count differ from the bytes present or from the sides.
 fn spoil_count(call: &mut Call, chance: &mut Chance) {
     let mut stated = u32::from_be_bytes(call.file[1..5].try_into().unwrap());
-    match chance.below(7) {
+    match chance.below(9) {
         0 => stated += 1,
         1 => stated -= 1,
         2 => stated = 0,
         3 => stated |= 1 << 31,
         4 => call.file.push(0),
         5 => drop(call.file.pop()),
+        // As if it were of the other version.
+        6 => stated += 4,
+        7 => stated -= 4,
         _ => {
             // Stated and present agree, and the count rule is broken.
             call.file.extend([0; 4]);
@@ -178,6 +216,11 @@ fn sets(table: &[u32]) -> Vec<Vec<u32>> {
 /// A call of which these rows hold, and the place that it must be refused with.
 fn spoiled(kind: Kind, rows: &[u32], chance: &mut Chance) -> (Call, u32) {
     let mut call = with_saddle(kind, chance);
+    // A file of version 1 has no spacings, and is short under 7 bytes alone.
+    let version_2 = kind == Kind::ReadSurvey && rows.iter().any(|row| [15, SHORT_2].contains(row));
+    while version_2 && call.file[0] == 1 {
+        call = with_saddle(kind, chance);
+    }
     let mut place = 0;
     // The upper rows last, so that none of the lower is undone.
     for &row in rows.iter().rev() {
@@ -188,7 +231,7 @@ fn spoiled(kind: Kind, rows: &[u32], chance: &mut Chance) -> (Call, u32) {
 
 /// Turned away by the first of these rows; accepted where there is none.
 fn refused(t: &Tester, call: &Call, rows: &[u32], place: u32) -> Outcome {
-    let code = rows.first().copied().unwrap_or(0);
+    let code = rows.first().map_or(0, |&row| code(row));
     let (answer, left) = t.agree(call)?;
     law(answer[0] == code, "the upper row wins", call)?;
     law(answer[1] == place, "the place", call)?;

@@ -3,13 +3,14 @@
 
 use crate::call::{Call, Kind};
 use crate::sheet::sheet_of;
-use crate::surface::{Plot, RULES, VIRTUAL_PIT};
+use crate::surface::{Plot, Spacings, RULES, VIRTUAL_PIT};
 use crate::tester::{law, Outcome, Tester};
 
-/// A plot by one rule. Rows of heights stand in lines. Marks, next down and next up are maps: a
-/// sign for each post, rows parted by blanks; an arrow shows which neighbour is next, a point
-/// the post itself. Rings have a word of codes for each post. A name that is alone in dales or
-/// hills is every post's; V is the virtual pit.
+/// A plot by one rule, its posts as far apart along a row as along a column. Rows of heights
+/// stand in lines. Marks, next down and next up are maps: a sign for each post, rows parted by
+/// blanks; an arrow shows which neighbour is next, a point the post itself. Rings have a word
+/// of codes for each post. A name that is alone in dales or hills is every post's; V is the
+/// virtual pit.
 struct Stated {
     heights: &'static str,
     rule: u8,
@@ -61,7 +62,8 @@ const BAY: &str = "
     32 31 30 29 28";
 
 /// Level channels along odd rows, in which water runs east: posts 8 and 18 are pits. Post 12 is
-/// a saddle between them, its lower runs having two level posts each by rule 1.
+/// a saddle between them, its lower runs having two level posts each by rule 1, of which the
+/// nearer is the steeper.
 const ODD_CHANNELS: &str = "
     20 21 22 23 24
     35  5  5  5 25
@@ -77,7 +79,7 @@ const EVEN_CHANNEL: &str = "
     24 23 22 21 20";
 
 /// The odd channels upside down: crests rise to the west, to posts 6 and 16. The upper runs of
-/// post 12 have two level posts each by rule 2.
+/// post 12 have two level posts each by rule 2, of which the nearer is the steeper.
 const ODD_CRESTS: &str = "
     20 19 18 17 16
      5 35 35 35 15
@@ -92,7 +94,44 @@ const EVEN_CREST: &str = "
     15 35 35 35  9
     16 17 18 19 20";
 
-const STATED: [Stated; 18] = [
+/// Post 12 is a saddle that is level with the channel north of it: of the level posts 7 and 8
+/// in its run by rule 1 the one that is driven first is taken, though the other is nearer.
+const LEVEL_SADDLE: &str = "
+    20 21 22 23 24
+    35  5  5  5 25
+    34  9  5  8 26
+    33  4  3  4 27
+    32 31 30 29 28";
+
+/// The same upside down: of the level posts 16 and 17 in the run of post 12 by rule 2 the one
+/// that is driven last.
+const LEVEL_CREST: &str = "
+    20 19 18 17 16
+     5 31 32 31 15
+     6 26 30 27 14
+     7 30 30 30 13
+     8  9 10 11 12";
+
+/// Posts 7 and 22 stand between two pits that are as far and as low: the one that is driven
+/// first is taken, in the odd row the eastern and in the even row the western.
+const BETWEEN_PITS: &str = "
+    20 21 22 23 24
+    37  5  9  5 25
+    36 40 41 42 26
+    35 43 44 45 27
+    34  5  9  5 28
+    33 32 31 30 29";
+
+/// The same upside down: the peak that is driven last.
+const BETWEEN_PEAKS: &str = "
+    25 24 23 22 21
+     8 40 36 40 20
+     9  5  4  3 19
+    10  2  1  0 18
+    11 40 36 40 17
+    12 13 14 15 16";
+
+const STATED: [Stated; 22] = [
     Stated {
         heights: FLAT_2_BY_2,
         rule: 1,
@@ -207,7 +246,7 @@ const STATED: [Stated; 18] = [
         counts: [2, 1, 1],
         marks: "30001 10000 00000 00000 00000 00000",
         down: "VVVVV V→→→V V↗↗↗V V↑↖↖V V↗↗↑V VVVVV",
-        up: "↓→→→. .←↑↑↓ ↑←↓↘↓ ↑←↓↘↓ ↑←↓↓↓ ↑←←←←",
+        up: "↓→→→. .←↑↑↓ ↑←↓→↓ ↑←↓→↓ ↑←↓↓↓ ↑←←←←",
         dales: "V",
         hills: "5 4 4 4 4
                 5 5 4 4 5
@@ -234,10 +273,10 @@ const STATED: [Stated; 18] = [
         counts: [2, 1, 1],
         marks: "03001 10000 00000 00000 00000 00000",
         down: "VVVVV V→→→V V↑↑↑V V↑↑↑V V↑↑↑V VVVVV",
-        up: "↓↙→→. .←↗↘↓ ↑↖↙↘↓ ↑↖↘↘↓ ↑↖↙↙↙ ↑↖←←←",
+        up: "↓↙→→. .←↑↑↓ ↑←↙→↓ ↑←↘→↓ ↑←↓↓↙ ↑↖←←←",
         dales: "V",
         hills: "5 5 4 4 4
-                5 5 4 5 5
+                5 5 4 4 5
                 5 5 5 5 5
                 5 5 5 5 5
                 5 5 5 5 5
@@ -260,8 +299,8 @@ const STATED: [Stated; 18] = [
         rule: 1,
         counts: [1, 3, 2],
         marks: "30000 10020 00300 00020 00000",
-        down: "VVVVV V→→.V V↗↗↑V V→→.V VVVVV",
-        up: "↓→→→↓ .←↑↘↓ ↑←→→↓ ↑↖↙↙↓ ↑←←←←",
+        down: "VVVVV V→→.V V↑↑↑V V→→.V VVVVV",
+        up: "↓→→→↓ .←↑→↓ ↑←→→↓ ↑←↓↓↓ ↑←←←←",
         dales: "V  V  V  V V
                 V  8  8  8 V
                 V  8  8  8 V
@@ -271,8 +310,8 @@ const STATED: [Stated; 18] = [
         lines: &[
             (Kind::Thalweg, 0, 0, "0 V"),
             (Kind::Thalweg, 0, 1, "0 6 7 8"),
-            (Kind::Thalweg, 12, 0, "12 8"),
-            (Kind::Thalweg, 12, 1, "12 18"),
+            (Kind::Thalweg, 12, 0, "12 7 8"),
+            (Kind::Thalweg, 12, 1, "12 17 18"),
             (Kind::Ridge, 12, 1, "12 11 10 5"),
         ],
         rings: "3131 31333 31333 3133 3133
@@ -286,8 +325,8 @@ const STATED: [Stated; 18] = [
         rule: 2,
         counts: [1, 3, 2],
         marks: "03000 10020 00300 00020 00000",
-        down: "VVVVV V→→.V V↗↑↑V V→→.V VVVVV",
-        up: "↓↙→↘↓ .←↗↘↓ ↑↖→↘↓ ↑↖↙↙↙ ↑↖←←←",
+        down: "VVVVV V→→.V V↑↑↑V V→→.V VVVVV",
+        up: "↓↙→↘↓ .←↑→↓ ↑←→→↓ ↑←↓↓↙ ↑↖←←←",
         dales: "V  V  V  V V
                 V  8  8  8 V
                 V  8  8  8 V
@@ -299,7 +338,7 @@ const STATED: [Stated; 18] = [
             (Kind::Thalweg, 1, 1, "1 V"),
             (Kind::Thalweg, 12, 0, "12 7 8"),
             (Kind::Thalweg, 12, 1, "12 17 18"),
-            (Kind::Ridge, 12, 1, "12 11 5"),
+            (Kind::Ridge, 12, 1, "12 11 10 5"),
         ],
         rings: "311 31313 31333 311333 313
                 333333 11411 1141112 11112 33133
@@ -312,8 +351,8 @@ const STATED: [Stated; 18] = [
         rule: 1,
         counts: [1, 2, 1],
         marks: "00000 00000 02001 00003",
-        down: "VVVVV V↓↙↙V V.←←V VVVVV",
-        up: "↓↓↓↓↓ →→→→↓ ↑↗↗→. ↑←←←↑",
+        down: "VVVVV V↓↓↓V V.←←V VVVVV",
+        up: "↓↓↓↓↓ →→→→↓ ↑↑↑→. ↑←←←↑",
         dales: "V  V  V  V V
                 V 11 11 11 V
                 V 11 11 11 V
@@ -334,8 +373,8 @@ const STATED: [Stated; 18] = [
         rule: 2,
         counts: [1, 2, 1],
         marks: "00000 00000 02001 00030",
-        down: "VVVVV V↓↙↙V V.←←V VVVVV",
-        up: "↘↘↘↘↓ →→→↘↓ ↗↗↗→. ↑↖←↗↑",
+        down: "VVVVV V↓↓↓V V.←←V VVVVV",
+        up: "↓↓↓↓↓ →→→↘↓ ↗↑↑→. ↑↖←↗↑",
         dales: "V  V  V  V V
                 V 11 11 11 V
                 V 11 11 11 V
@@ -356,12 +395,12 @@ const STATED: [Stated; 18] = [
         rule: 1,
         counts: [3, 1, 2],
         marks: "13000 01000 00300 01000 00000",
-        down: "VVVVV V←↗↘V V↖→↘V V↖↙↙V VVVVV",
-        up: ".↓↙↙← →.←←← ↘↓↓↙↖ →.←←← →↑↑↑↑",
+        down: "VVVVV V←↑→V V←→→V V←↓↓V VVVVV",
+        up: ".↓↓↓← →.←←← →↓↓↓← →.←←← →↑↑↑↑",
         dales: "V",
         hills: "0 6 6 6 6
                 6 6 6 6 6
-                16 16 16 16 6
+                16 16 16 16 16
                 16 16 16 16 16
                 16 16 16 16 16",
         lines: &[
@@ -369,7 +408,7 @@ const STATED: [Stated; 18] = [
             (Kind::Ridge, 1, 1, "1 0"),
             (Kind::Ridge, 12, 0, "12 7 6"),
             (Kind::Ridge, 12, 1, "12 17 16"),
-            (Kind::Thalweg, 12, 0, "12 13 19 V"),
+            (Kind::Thalweg, 12, 0, "12 13 14 V"),
         ],
         rings: "333 33131 33111 333111 331
                 111113 33433 3343332 33332 13311
@@ -382,8 +421,8 @@ const STATED: [Stated; 18] = [
         rule: 2,
         counts: [2, 1, 1],
         marks: "00000 01000 00300 01000 00000",
-        down: "VVVVV V←↗↘V V←→→V V↖↓↓V VVVVV",
-        up: "↘↓↙↙↙ →.←←← ↘↓↙↙↙ →.←←← ↗↑↖↖↖",
+        down: "VVVVV V←↑→V V←→→V V←↓↓V VVVVV",
+        up: "↘↓↓↓↙ →.←←← →↓↓↓← →.←←← ↗↑↑↑↖",
         dales: "V",
         hills: "6 6 6 6 6
                 6 6 6 6 6
@@ -391,8 +430,8 @@ const STATED: [Stated; 18] = [
                 16 16 16 16 16
                 16 16 16 16 16",
         lines: &[
-            (Kind::Ridge, 12, 0, "12 16"),
-            (Kind::Ridge, 12, 1, "12 6"),
+            (Kind::Ridge, 12, 0, "12 17 16"),
+            (Kind::Ridge, 12, 1, "12 7 6"),
             (Kind::Thalweg, 12, 0, "12 13 14 V"),
             (Kind::Thalweg, 12, 1, "12 11 10 V"),
         ],
@@ -407,8 +446,8 @@ const STATED: [Stated; 18] = [
         rule: 1,
         counts: [3, 1, 2],
         marks: "00001 30000 00010 00031",
-        down: "VVVVV V→→↘V V↗↗→V VVVVV",
-        up: "→→→→. ↑↓↓↓↑ →→→.← →↗↗↑.",
+        down: "VVVVV V→→↘V V↑↑→V VVVVV",
+        up: "→→→→. ↑↓↓↓↑ →→→.← →↑↑↑.",
         dales: "V",
         hills: "4 4 4 4 4
                 4 13 13 13 4
@@ -431,14 +470,14 @@ const STATED: [Stated; 18] = [
         counts: [2, 1, 1],
         marks: "00001 30000 00010 00000",
         down: "VVVVV V→→→V V↑↑→V VVVVV",
-        up: "→→→→. ↘↘↘↓↙ →→→.← ↗↗↗↑↖",
+        up: "→→→→. ↘↓↓↓↑ →→→.← ↗↑↑↑↖",
         dales: "V",
         hills: "4 4 4 4 4
-                13 13 13 13 13
+                13 13 13 13 4
                 13 13 13 13 13
                 13 13 13 13 13",
         lines: &[
-            (Kind::Ridge, 5, 0, "5 1 2 3 4"),
+            (Kind::Ridge, 5, 0, "5 0 1 2 3 4"),
             (Kind::Ridge, 5, 1, "5 11 12 13"),
             (Kind::Thalweg, 5, 1, "5 V"),
         ],
@@ -446,6 +485,108 @@ const STATED: [Stated; 18] = [
                 113113 113111 113111 11311 13311
                 3113 323333 323343 33333343 1311
                 3113 11133 11133 1133 3331",
+    },
+    Stated {
+        heights: LEVEL_SADDLE,
+        rule: 1,
+        counts: [1, 3, 2],
+        marks: "30000 10020 00300 00200 00000",
+        down: "VVVVV V→→.V V↓↓↓V V→.←V VVVVV",
+        up: "↓→→→↓ .←↑→↓ ↑←←→↓ ↑←↓↓↓ ↑←←←←",
+        dales: "V  V  V  V  V
+                 V  8  8  8  V
+                 V 17 17 17  V
+                 V 17 17 17  V
+                 V  V  V  V  V",
+        hills: "5",
+        lines: &[
+            (Kind::Thalweg, 12, 0, "12 8"),
+            (Kind::Thalweg, 12, 1, "12 17"),
+            (Kind::Ridge, 12, 1, "12 11 10 5"),
+        ],
+        rings: "3131 31333 31333 3133 3133
+                3333 141111 142121 11111221 3313
+                133333 333331 44131 31333 331333
+                1333 131111 11111111 111113 3313
+                1333 33331 3331 33313 3313",
+    },
+    Stated {
+        heights: LEVEL_CREST,
+        rule: 2,
+        counts: [2, 1, 1],
+        marks: "00000 00100 00300 01000 00000",
+        down: "VVVVV V←↑→V V←←→V V←↓↓V VVVVV",
+        up: "↘↓↓↓↙ →→.←← →↑↑↑← →.←←← ↗↑↑↑↖",
+        dales: "V",
+        hills: "7  7  7  7  7
+                 7  7  7  7  7
+                 7  7  7  7  7
+                16 16 16 16 16
+                16 16 16 16 16",
+        lines: &[
+            (Kind::Ridge, 12, 0, "12 7"),
+            (Kind::Ridge, 12, 1, "12 16"),
+            (Kind::Thalweg, 12, 1, "12 11 10 V"),
+        ],
+        rings: "3313 33111 3311 33111 3311
+                1113 313333 33333333 333331 1331
+                311113 11113 13223 131111 133111
+                3113 34433333 434332 333332 1331
+                3113 1133 11331 11331 1331",
+    },
+    Stated {
+        heights: BETWEEN_PITS,
+        rule: 1,
+        counts: [2, 5, 5],
+        marks: "30000 12320 30000 00013 02320 00000",
+        down: "VVVVV V.→.V V↑↑↑V V↓↓↓V V.←.V VVVVV",
+        up: "↓→→→↓ .↓↓↓↓ →↓↓↓← →→→.← ↑↑↑↑↓ ↑←←←←",
+        dales: "V  V  V  V V
+                V  6  8  8 V
+                V  6  8  8 V
+                V 21 21 23 V
+                V 21 21 23 V
+                V  V  V  V V",
+        hills: " 5 18 18 18 18
+                 5 18 18 18 18
+                18 18 18 18 18
+                18 18 18 18 18
+                18 18 18 18 18
+                18 18 18 18 18",
+        lines: &[],
+        rings: "3131 3133 313333 3133 3133
+                3333 11111111 1313 11111111 3313
+                13133 311133 3311133 3313 331113
+                111333 3133 3133333 333333 33131
+                1333 11111111 1313 11111111 3313
+                1333 3331 333313 3331 3313",
+    },
+    Stated {
+        heights: BETWEEN_PEAKS,
+        rule: 2,
+        counts: [4, 2, 4],
+        marks: "00000 01310 30000 00023 01310 00000",
+        down: "VVVVV V↓↓↓V V↓↓↓V V→→.V V↑↑↑V VVVVV",
+        up: "↘↓↓↓↙ →.←.← ↗↑↑↑↖ ↘↓↓↓↙ →.→.← ↗↑↑↑↖",
+        dales: "V  V  V  V V
+                V 18 18 18 V
+                V 18 18 18 V
+                V 18 18 18 V
+                V 18 18 18 V
+                V  V  V  V V",
+        hills: " 6  6  6  8  8
+                 6  6  6  8  8
+                 6  6  6  8  8
+                21 21 23 23 23
+                21 21 23 23 23
+                21 21 23 23 23",
+        lines: &[],
+        rings: "3313 3311 331111 3311 3311
+                1113 33333333 3131 33333333 1331
+                31313 133311 1133311 1131 133331
+                333113 1311 1311111 111111 13313
+                3113 33333333 3131 33333333 1331
+                3113 1133 111331 1133 1331",
     },
 ];
 
@@ -467,8 +608,12 @@ impl Stated {
         let heights: Vec<i32> =
             self.heights.split_whitespace().map(|height| height.parse().unwrap()).collect();
         let rows = self.heights.lines().filter(|line| !line.is_empty()).count();
-        let (sheet, columns) = (sheet_of(&[(1, &[self.rule])]), heights.len() / rows);
-        Call { kind, sheet, rows: rows as u32, columns: columns as u32, heights, ..Call::default() }
+        let (sheet, columns) = (sheet_of(&[(1, &[self.rule])]), (heights.len() / rows) as u32);
+        let mut call = Call { kind, sheet, rows: rows as u32, columns, heights, ..Call::default() };
+        if kind.takes_spacings() {
+            call.spacings = Spacings::of(100, 100);
+        }
+        call
     }
 
     fn marks(&self) -> Vec<u8> {

@@ -3,25 +3,51 @@
 use super::{good, WAYS};
 use crate::call::{Call, Kind};
 use crate::opinion::in_one_piece;
-use crate::plots::{any_plot, ground, Chance, GROUNDS};
-use crate::surface::{by_changes, Plot, Rule, Way, RULES, VIRTUAL_PIT};
+use crate::plots::{any_plot, any_spacings, ground, Chance, GROUNDS};
+use crate::surface::{by_changes, Plot, Rule, Spacings, Way, RULES, VIRTUAL_PIT};
 use crate::tester::{law, Outcome, Tester};
 
-/// Everything about one plot. Of a plot with more than `most` posts only so
-/// many, by chance, are asked for their rings, their next posts and their lines.
+/// Everything about one plot, by any spacings. Of a plot with more than `most` posts only
+/// so many, by chance, are asked for their rings, their next posts and their lines.
 pub fn whole_plot(t: &Tester, plot: &Plot, most: usize, chance: &mut Chance) -> Outcome {
+    let spacings = any_spacings(chance);
+    by_each(t, plot, &[spacings], most, chance)
+}
+
+/// Everything about one plot, by each of these spacings.
+pub fn by_each(
+    t: &Tester,
+    plot: &Plot,
+    all: &[Spacings],
+    most: usize,
+    chance: &mut Chance,
+) -> Outcome {
     let posts = plot.posts();
     let marks = survey(t, plot, chance)?;
-    let parted = parting(t, plot, &marks, chance)?;
     let asked = if posts > most { chance.some(most, posts) } else { (0..posts).collect() };
     rings(t, plot, &marks, &asked, chance)?;
+    all.iter().try_for_each(|&spacings| spaced(t, plot, spacings, &marks, &asked, chance))
+}
+
+/// What depends on spacings: the parting, and of those that are asked the next posts and
+/// the lines.
+fn spaced(
+    t: &Tester,
+    plot: &Plot,
+    spacings: Spacings,
+    marks: &[u8],
+    asked: &[usize],
+    chance: &mut Chance,
+) -> Outcome {
+    let parted = parting(t, plot, spacings, marks, chance)?;
     for ((way, next, line), names) in WAYS.into_iter().zip([&parted.dales, &parted.hills]) {
-        let steps = next_posts(t, plot, way, good(next, plot, chance), &asked)?;
-        if asked.len() == posts {
+        let call = Call { spacings, ..good(next, plot, chance) };
+        let steps = next_posts(t, plot, way, call, asked)?;
+        if asked.len() == plot.posts() {
             walks_end_at(names, &steps, &parted)?;
         }
-        let call = good(line, plot, chance);
-        for &post in &asked {
+        let call = Call { spacings, ..good(line, plot, chance) };
+        for &post in asked {
             let call = Call { post: post as u32, ..call.clone() };
             lines_of(t, plot, way, call, marks[post])?;
         }
@@ -83,8 +109,14 @@ fn lower_runs(codes: &[u8]) -> u32 {
 }
 
 /// The dales and hills, named by the marked pits and peaks, each in one piece.
-fn parting(t: &Tester, plot: &Plot, marks: &[u8], chance: &mut Chance) -> Result<Call, String> {
-    let call = good(Kind::DalesAndHills, plot, chance);
+fn parting(
+    t: &Tester,
+    plot: &Plot,
+    spacings: Spacings,
+    marks: &[u8],
+    chance: &mut Chance,
+) -> Result<Call, String> {
+    let call = Call { spacings, ..good(Kind::DalesAndHills, plot, chance) };
     let (answer, left) = t.agree(&call)?;
     law(answer[0] == 0, "dales and hills are accepted", &call)?;
     for (names, mark, way) in [(&left.dales, 2, Way::Down), (&left.hills, 1, Way::Up)] {
@@ -170,13 +202,19 @@ fn lines_of(t: &Tester, plot: &Plot, way: Way, mut call: Call, mark: u8) -> Outc
 }
 
 /// Every plot of a size over so many heights.
-fn every_plot(rows: usize, columns: usize, levels: i32) -> impl Iterator<Item = Vec<i32>> {
+pub fn every_plot(rows: usize, columns: usize, levels: i32) -> impl Iterator<Item = Vec<i32>> {
     let posts = (rows * columns) as u32;
     (0..levels.pow(posts)).map(move |n| (0..posts).map(|p| n / levels.pow(p) % levels).collect())
 }
 
-/// Every plot of a size over so many heights, by each rule. Three rows have a post off the
-/// border in an odd row, four also one in an even row; few heights make many ties.
+/// Equal spacings, and such that a drop of one along the shorter side is as steep as one of
+/// two along the longer.
+const EACH: [[Spacings; 2]; 2] =
+    [[Spacings::of(100, 100), Spacings::of(1, 2)], [Spacings::of(100, 100), Spacings::of(2, 1)]];
+
+/// Every plot of a size over so many heights, by each rule and two spacings. Three rows have a
+/// post off the border in an odd row, four also one in an even row; few heights make many
+/// ties.
 pub fn exhaustive(t: &mut Tester, chance: &mut Chance, long: bool) {
     let mut sizes =
         vec![(2, 2, 4), (2, 3, 4), (3, 2, 4), (3, 3, 3), (2, 4, 2), (4, 2, 2), (4, 3, 2)];
@@ -188,7 +226,8 @@ pub fn exhaustive(t: &mut Tester, chance: &mut Chance, long: bool) {
         for heights in every_plot(rows, columns, levels) {
             for rule in RULES {
                 let plot = Plot { rule, rows, columns, heights: &heights };
-                t.case(whole_plot(t, &plot, plot.posts(), chance));
+                let spacings = chance.of(&EACH);
+                t.case(by_each(t, &plot, &spacings, plot.posts(), chance));
             }
         }
     }
@@ -239,17 +278,17 @@ pub fn every_post(t: &mut Tester, chance: &mut Chance, long: bool) {
         let heights = ground(kind, 120, 120, chance);
         for rule in RULES {
             let plot = Plot { rule, rows: 120, columns: 120, heights: &heights };
-            let steps = walk(&plot, 121, way);
+            let steps = walk(&plot, 121, way, any_spacings(chance));
             t.case(if steps > 6000 { Ok(()) } else { Err(format!("{kind}: {steps} steps")) });
         }
     }
 }
 
 /// The steps of a walk to its end.
-fn walk(plot: &Plot, mut post: usize, way: Way) -> usize {
+fn walk(plot: &Plot, mut post: usize, way: Way, spacings: Spacings) -> usize {
     let mut steps = 0;
-    while post != VIRTUAL_PIT && plot.next(post, way) != post {
-        post = plot.next(post, way);
+    while post != VIRTUAL_PIT && plot.next(post, way, spacings) != post {
+        post = plot.next(post, way, spacings);
         steps += 1;
     }
     steps
@@ -280,6 +319,7 @@ fn turned(t: &Tester, plot: &Plot, chance: &mut Chance) -> Outcome {
     let heights: Vec<i32> = (0..plot.posts()).map(|post| -plot.heights[there(post)]).collect();
     let other = Plot { rule: Rule::Lowest, heights: &heights, ..*plot };
     let (marks, others) = (survey(t, plot, chance)?, survey(t, &other, chance)?);
+    let spacings = any_spacings(chance);
     for post in (0..plot.posts()).filter(|&post| !plot.ring(post).contains(&VIRTUAL_PIT)) {
         let mark = match others[there(post)] {
             1 => 2,
@@ -287,8 +327,9 @@ fn turned(t: &Tester, plot: &Plot, chance: &mut Chance) -> Outcome {
             mark => mark,
         };
         for (one, another) in [(Kind::NextDown, Kind::NextUp), (Kind::NextUp, Kind::NextDown)] {
-            let call = Call { post: post as u32, ..good(one, plot, chance) };
-            let turned = Call { post: there(post) as u32, ..good(another, &other, chance) };
+            let call = Call { post: post as u32, spacings, ..good(one, plot, chance) };
+            let post_there = there(post) as u32;
+            let turned = Call { post: post_there, spacings, ..good(another, &other, chance) };
             let (next, other) = (t.agree(&call)?.0[2], t.agree(&turned)?.0[2]);
             law(marks[post] == mark, "a mark upside down", &call)?;
             law(there(next as usize) == other as usize, "a step upside down", &call)?;
