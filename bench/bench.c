@@ -1,8 +1,9 @@
 /*
  * The library against its C twin, in one run, the three builds taking turns on
- * the same lists, by either rule. Times are medians, in nanoseconds a post. The
- * lists are warm and are not cleared between calls. The status is 0 where all
- * builds agree on every answer and list, however long they took.
+ * the same lists, by either rule, with even and with uneven spacings. Times are
+ * medians, in nanoseconds a post. The lists are warm and are not cleared between
+ * calls. The status is 0 where all builds agree on every answer and list, however
+ * long they took.
  *
  *     bench [rounds]
  */
@@ -27,18 +28,20 @@ typedef struct {
                          uint8_t *, size_t, uint32_t, int32_t);
     sn_ring_mark (*ring)(const uint8_t *, size_t, uint32_t, uint32_t, const int32_t *, size_t,
                          uint32_t, uint8_t *, size_t);
-    sn_next (*next_down)(const uint8_t *, size_t, uint32_t, uint32_t, const int32_t *, size_t,
-                         uint32_t);
-    sn_next (*next_up)(const uint8_t *, size_t, uint32_t, uint32_t, const int32_t *, size_t,
-                       uint32_t);
-    sn_entries (*thalweg)(const uint8_t *, size_t, uint32_t, uint32_t, const int32_t *, size_t,
-                          uint32_t, uint32_t, uint16_t *, size_t);
-    sn_entries (*ridge)(const uint8_t *, size_t, uint32_t, uint32_t, const int32_t *, size_t,
-                        uint32_t, uint32_t, uint16_t *, size_t);
-    sn_answer (*dales_and_hills)(const uint8_t *, size_t, uint32_t, uint32_t, const int32_t *,
-                                 size_t, uint16_t *, size_t, uint16_t *, size_t);
+    sn_next (*next_down)(const uint8_t *, size_t, uint32_t, uint32_t, uint32_t, uint32_t,
+                         const int32_t *, size_t, uint32_t);
+    sn_next (*next_up)(const uint8_t *, size_t, uint32_t, uint32_t, uint32_t, uint32_t,
+                       const int32_t *, size_t, uint32_t);
+    sn_entries (*thalweg)(const uint8_t *, size_t, uint32_t, uint32_t, uint32_t, uint32_t,
+                          const int32_t *, size_t, uint32_t, uint32_t, uint16_t *, size_t);
+    sn_entries (*ridge)(const uint8_t *, size_t, uint32_t, uint32_t, uint32_t, uint32_t,
+                        const int32_t *, size_t, uint32_t, uint32_t, uint16_t *, size_t);
+    sn_answer (*dales_and_hills)(const uint8_t *, size_t, uint32_t, uint32_t, uint32_t, uint32_t,
+                                 const int32_t *, size_t, uint16_t *, size_t, uint16_t *,
+                                 size_t);
     sn_size (*read_survey)(const uint8_t *, size_t, int32_t *, size_t);
-    sn_answer (*write_survey)(uint32_t, uint32_t, const int32_t *, size_t, uint8_t *, size_t);
+    sn_answer (*write_survey)(uint32_t, uint32_t, uint32_t, uint32_t, const int32_t *, size_t,
+                              uint8_t *, size_t);
 } calls;
 
 #define CALLS(prefix)                                                                 \
@@ -111,32 +114,41 @@ static void fill(int32_t *heights, int side, int kind)
 
 /* ---- one call on one plot ---- */
 
-/* Those before READ go by a rule. */
+/* Those before READ go by a rule, those from DALES_AND_HILLS to RIDGE by spacings too. */
 enum {
-    SURVEY, DALES_AND_HILLS, RESHOOT, RING, NEXT_DOWN, NEXT_UP, THALWEG, RIDGE, READ, WRITE,
+    SURVEY, RESHOOT, RING, DALES_AND_HILLS, NEXT_DOWN, NEXT_UP, THALWEG, RIDGE, READ, READ_1, WRITE,
     SETTINGS
 };
 static const char *const call_names[SETTINGS + 1] = {
-    "survey", "dales and hills", "re-shoot", "ring", "next down", "next up",
-    "thalweg", "ridge", "read", "write", "settings"
+    "survey", "re-shoot", "ring", "dales and hills", "next down", "next up",
+    "thalweg", "ridge", "read", "read version 1", "write", "settings"
 };
 
 /* The longest sheet: the rule of the highest post, and a name of 32 bytes. */
 static const uint8_t full_sheet[SN_MAX_SHEET] =
     "\1\0\0\0\45" "\1\1\2" "\2\40" "the field beyond the old orchard";
 
-/* The rules: what sheet means them, and which line is drawn. */
-enum { LOWEST, HIGHEST, RULES };
+/* The ways to call: the sheet and the spacings, and which line is drawn. The last is not timed. */
+enum { ORDINARY, HIGHEST, UNEVEN, UNEVEN_HIGHEST, WAYS };
 static struct {
     const uint8_t *sheet;
     size_t length;
+    uint32_t along_row, along_column;
     uint32_t post, run;
-} rules[RULES] = {{NULL, 0, 0, 0}, {full_sheet, SN_MAX_SHEET, 0, 0}};
+} ways[WAYS] = {
+    {NULL, 0, 100, 100, 0, 0},
+    {full_sheet, SN_MAX_SHEET, 100, 100, 0, 0},
+    {NULL, 0, 100, 250, 0, 0},
+    {full_sheet, SN_MAX_SHEET, 100, 250, 0, 0}
+};
 
+/* Lists lie apart: where they touch, a loop may take them to overlap. */
+enum { GAP = 512 };
 static uint32_t side, posts;
-static int32_t heights[SN_MAX_POSTS], held[SN_MAX_POSTS];
-static uint8_t marks[SN_MAX_POSTS], ring[SN_RING_LENGTH], file[SN_MAX_FILE], name[SN_MAX_NAME];
-static uint16_t dales[SN_MAX_POSTS], hills[SN_MAX_POSTS], line[SN_MAX_LINE];
+static int32_t heights[SN_MAX_POSTS + GAP], held[SN_MAX_POSTS + GAP];
+static uint8_t marks[SN_MAX_POSTS + GAP], ring[SN_RING_LENGTH], file[SN_MAX_FILE + GAP];
+static uint8_t name[SN_MAX_NAME];
+static uint16_t dales[SN_MAX_POSTS + GAP], hills[SN_MAX_POSTS + GAP], line[SN_MAX_LINE + GAP];
 
 /* The sum of an answer's numbers. */
 static uint32_t of_answer(sn_answer a)
@@ -171,43 +183,50 @@ static uint32_t of_entries(sn_entries a)
 
 static uint32_t of_size(sn_size a)
 {
-    return a.code + a.place + a.rows + a.columns;
+    return a.code + a.place + a.rows + a.columns + 3 * a.along_row + 5 * a.along_column;
 }
 
 /* Calls once; gives the sum of the answer's numbers. */
-static uint32_t once(int build, int rule, int call, uint32_t turn)
+static uint32_t once(int build, int way, int call, uint32_t turn)
 {
     const calls *b = &builds[build];
-    const uint8_t *sheet = rules[rule].sheet;
-    size_t n = posts, length = rules[rule].length, file_size = SN_FILE_SIZE(side, side);
-    uint32_t p = turn * 7919 % posts, post = rules[rule].post, run = rules[rule].run;
+    const uint8_t *sheet = ways[way].sheet;
+    size_t n = posts, length = ways[way].length, file_size = SN_FILE_SIZE(side, side);
+    uint32_t p = turn * 7919 % posts, post = ways[way].post, run = ways[way].run;
+    uint32_t along_row = ways[way].along_row, along_column = ways[way].along_column;
 
     switch (call) {
     case SURVEY:
         return of_counts(b->survey(sheet, length, side, side, heights, n, marks, n));
-    case DALES_AND_HILLS:
-        return of_answer(b->dales_and_hills(sheet, length, side, side, heights, n, dales, n,
-                                            hills, n));
     case RESHOOT:
         return of_answer(b->reshoot(sheet, length, side, side, held, n, marks, n, p,
                                     heights[(p + turn) % posts]));
     case RING:
         return of_ring_mark(b->ring(sheet, length, side, side, heights, n, p, ring,
                                     SN_RING_LENGTH));
+    case DALES_AND_HILLS:
+        return of_answer(b->dales_and_hills(sheet, length, side, side, along_row, along_column,
+                                            heights, n, dales, n, hills, n));
     case NEXT_DOWN:
-        return of_next(b->next_down(sheet, length, side, side, heights, n, p));
+        return of_next(b->next_down(sheet, length, side, side, along_row, along_column, heights,
+                                    n, p));
     case NEXT_UP:
-        return of_next(b->next_up(sheet, length, side, side, heights, n, p));
+        return of_next(b->next_up(sheet, length, side, side, along_row, along_column, heights,
+                                  n, p));
     case THALWEG:
-        return of_entries(b->thalweg(sheet, length, side, side, heights, n, post, run, line,
-                                     SN_MAX_LINE));
+        return of_entries(b->thalweg(sheet, length, side, side, along_row, along_column, heights,
+                                     n, post, run, line, SN_MAX_LINE));
     case RIDGE:
-        return of_entries(b->ridge(sheet, length, side, side, heights, n, post, run, line,
-                                   SN_MAX_LINE));
+        return of_entries(b->ridge(sheet, length, side, side, along_row, along_column, heights,
+                                   n, post, run, line, SN_MAX_LINE));
     case READ:
         return of_size(b->read_survey(file, file_size, held, n));
+    case READ_1:
+        return of_size(b->read_survey(file, file_size - (SN_FILE_HEADER - SN_FILE_HEADER_1), held,
+                                      n));
     case WRITE:
-        return of_answer(b->write_survey(side, side, heights, n, file, file_size));
+        return of_answer(b->write_survey(side, side, along_row, along_column, heights, n, file,
+                                         file_size));
     default:
         return of_sheet(b->settings(sheet, length, name, SN_MAX_NAME));
     }
@@ -223,7 +242,7 @@ static uint64_t digest(uint64_t sum, const void *list, size_t size)
 
 /* Some calls from the same start, and a digest of answers and lists. Each turn writes
    all of the ring, so that it is looked at after each. */
-static uint64_t outcome(int build, int rule, int call)
+static uint64_t outcome(int build, int way, int call)
 {
     uint64_t sum = 0;
 
@@ -235,7 +254,7 @@ static uint64_t outcome(int build, int rule, int call)
     memset(line, 0, sizeof line);
     memset(name, 0, sizeof name);
     for (uint32_t turn = 0; turn < 20; turn++)
-        sum = digest(sum * 31 + once(build, rule, call, turn), ring, sizeof ring);
+        sum = digest(sum * 31 + once(build, way, call, turn), ring, sizeof ring);
     sum = digest(sum, held, sizeof held);
     sum = digest(sum, marks, sizeof marks);
     sum = digest(sum, dales, sizeof dales);
@@ -252,21 +271,21 @@ static uint32_t distance(uint32_t a, uint32_t b)
 
 /* Of so many lines, from the first saddle on, the one whose entries are nearest to the number
    wanted. Gives its entries. */
-static uint32_t choose_line(int rule, int call, uint32_t wanted, uint32_t tries)
+static uint32_t choose_line(int way, int call, uint32_t wanted, uint32_t tries)
 {
     uint32_t entries = 0, post = 0, run = 0;
 
-    (void)once(SCALAR, rule, SURVEY, 0);
+    (void)once(SCALAR, way, SURVEY, 0);
     for (uint32_t p = 0; p < posts && tries > 0 && entries != wanted; p++)
         for (uint32_t k = 0; k < SN_SADDLE_RUNS(marks[p]); k++) {
             uint32_t count;
-            rules[rule].post = p, rules[rule].run = k;
-            count = once(SCALAR, rule, call, 0);
+            ways[way].post = p, ways[way].run = k;
+            count = once(SCALAR, way, call, 0);
             if (entries == 0 || distance(count, wanted) < distance(entries, wanted))
                 entries = count, post = p, run = k;
             tries -= tries > 0;
         }
-    rules[rule].post = post, rules[rule].run = run;
+    ways[way].post = post, ways[way].run = run;
     return entries;
 }
 
@@ -280,19 +299,35 @@ static void file_tenths(void)
     }
 }
 
-/* By the first rule a long line is drawn, by the second one with as many entries where there
-   is any, so that the two can be compared. */
-static void prepare(uint32_t a_side, int kind, int call)
+/* Makes the file one of version 1. */
+static void file_version_1(void)
+{
+    uint32_t count = SN_FILE_HEADER_1 - 5 + 4 * posts;
+
+    file[0] = SN_FILE_VERSION_1;
+    for (int i = 0; i < 4; i++)
+        file[1 + i] = (uint8_t)(count >> (24 - 8 * i));
+    memmove(file + SN_FILE_HEADER_1, file + SN_FILE_HEADER, 4 * (size_t)posts);
+}
+
+/* By the first way a long line is drawn, by the others one with as many entries where there
+   is any, so that they can be compared. */
+static void prepare(uint32_t a_side, int kind, int way, int call)
 {
     side = a_side;
     posts = side * side;
     fill(heights, (int)side, kind);
     memcpy(held, heights, sizeof held);
-    if (call == THALWEG || call == RIDGE)
-        (void)choose_line(HIGHEST, call, choose_line(LOWEST, call, SN_MAX_LINE, 400), 40000);
-    (void)once(SCALAR, LOWEST, WRITE, 0);
-    if (call == READ)
+    if (call == THALWEG || call == RIDGE) {
+        uint32_t entries = choose_line(ORDINARY, call, SN_MAX_LINE, 400);
+        for (int i = HIGHEST; i < WAYS; i++)
+            (void)choose_line(i, call, entries, 40000);
+    }
+    (void)once(SCALAR, way, WRITE, 0);
+    if (call == READ || call == READ_1)
         file_tenths();
+    if (call == READ_1)
+        file_version_1();
 }
 
 /* ---- times ---- */
@@ -319,12 +354,12 @@ static double median(double *values)
     return values[rounds / 2];
 }
 
-/* Who takes turns: the builds, and where the rules are compared the library by the first. */
-enum { BY_LOWEST = BUILDS, TURNS };
+/* Who takes turns: the builds, and where ways are compared the library by the ordinary one. */
+enum { BY_ORDINARY = BUILDS, TURNS };
 
-static int is_compared(int rule, int call)
+static int is_compared(int way, int call)
 {
-    return rule == HIGHEST && call < READ;
+    return way != ORDINARY && call < READ;
 }
 
 typedef struct {
@@ -334,16 +369,16 @@ typedef struct {
 
 /* A ratio is taken within a round, so that a machine that grows slower for a while does not
    bend it. */
-static figures measure(int rule, int call)
+static figures measure(int way, int call)
 {
     double times[TURNS][MOST_ROUNDS], ratios[TURNS][MOST_ROUNDS];
     uint32_t repeats = 1 + 400000 / (posts * 5);
-    int turns = is_compared(rule, call) ? TURNS : BUILDS;
+    int turns = is_compared(way, call) ? TURNS : BUILDS;
     figures f = {{0}, {0}};
 
     for (int round = 0; round < rounds; round++) {
         for (int i = 0; i < turns; i++) {
-            int build = i == BY_LOWEST ? LIBRARY : i, by = i == BY_LOWEST ? LOWEST : rule;
+            int build = i == BY_ORDINARY ? LIBRARY : i, by = i == BY_ORDINARY ? ORDINARY : way;
             double start = now();
             for (uint32_t turn = 0; turn < repeats; turn++)
                 (void)once(build, by, call, turn);
@@ -365,55 +400,72 @@ static void heading(const char *title, const char *right, const char *last)
            "scalar", "vector", "lib/scalar", "lib/vector", last);
 }
 
-static int row(int rule, const char *right, uint32_t a_side, int kind, int call)
+/* Uneven spacings are looked at by both rules. */
+static int agree_on(int way, int call)
+{
+    uint64_t library = outcome(LIBRARY, way, call);
+    return library == outcome(SCALAR, way, call) && library == outcome(VECTOR, way, call) &&
+           (way != UNEVEN || agree_on(UNEVEN_HIGHEST, call));
+}
+
+static int row(int way, const char *right, uint32_t a_side, int kind, int call)
 {
     figures f;
     int agree;
 
-    prepare(a_side, kind, call);
-    agree = outcome(LIBRARY, rule, call) == outcome(SCALAR, rule, call) &&
-            outcome(LIBRARY, rule, call) == outcome(VECTOR, rule, call);
-    prepare(a_side, kind, call);
-    f = measure(rule, call);
+    prepare(a_side, kind, way, call);
+    agree = agree_on(way, call);
+    prepare(a_side, kind, way, call);
+    f = measure(way, call);
     printf("%-16s %-13s %9.2f %9.2f %9.2f %11.2f %11.2f %12.2f%s\n", call_names[call], right,
            f.time[LIBRARY], f.time[SCALAR], f.time[VECTOR], f.ratio[SCALAR], f.ratio[VECTOR],
-           is_compared(rule, call) ? f.ratio[BY_LOWEST] : f.time[LIBRARY] * posts / 1000,
+           is_compared(way, call) ? f.ratio[BY_ORDINARY] : f.time[LIBRARY] * posts / 1000,
            agree ? "" : "  THEY DISAGREE");
     return agree;
 }
 
-/* The last column: what a call takes, or by the second rule what it takes of the first's. */
-static const char *const last_column[RULES] = {"lib us/call", "lib rule 2/1"};
+/* The calls of each way that is timed, the titles, and the last column: what a call takes, or
+   what it takes of the ordinary way's. */
+static const struct {
+    int first, end;
+    const char *by_plot, *by_size, *last;
+} tables[UNEVEN + 1] = {
+    {SURVEY, SETTINGS,
+     "Nanoseconds a post at 120 by 120. Rule 1, no sheet, spacings 100 and 100.",
+     "\nBy size. Rule 1.", "lib us/call"},
+    {SURVEY, READ,
+     "\nNanoseconds a post at 120 by 120. Rule 2, a sheet of 42 bytes.",
+     "\nBy size. Rule 2.", "lib rule 2/1"},
+    {DALES_AND_HILLS, READ,
+     "\nNanoseconds a post at 120 by 120. Rule 1, spacings 100 along a row, 250 along a column.",
+     "\nBy size. Spacings 100 and 250.", "lib 250/100"}
+};
 
-static int by_plot(int rule)
+/* Files are written and read with uneven spacings: even ones could be exchanged. */
+static int by_plot(int way)
 {
-    static const char *const titles[RULES] = {
-        "Nanoseconds a post at 120 by 120. Rule 1, no sheet.",
-        "\nNanoseconds a post at 120 by 120. Rule 2, a sheet of 42 bytes."
-    };
-    int agree = 1, end = rule == LOWEST ? SETTINGS : READ;
+    int agree = 1;
 
-    heading(titles[rule], "plot", last_column[rule]);
-    for (int call = 0; call < end; call++)
+    heading(tables[way].by_plot, "plot", tables[way].last);
+    for (int call = tables[way].first; call < tables[way].end; call++)
         for (int kind = 0; kind < KINDS; kind++)
-            agree &= row(rule, kind_names[kind], 120, kind, call);
+            agree &= row(call < READ ? way : UNEVEN, kind_names[kind], 120, kind, call);
     return agree;
 }
 
-static int by_size(int rule)
+static int by_size(int way)
 {
-    static const char *const titles[RULES] = {"\nBy size. Rule 1.", "\nBy size. Rule 2."};
     static const uint32_t sides[4] = {15, 30, 60, 120};
     int agree = 1;
 
-    heading(titles[rule], "side", last_column[rule]);
-    for (int call = SURVEY; call <= DALES_AND_HILLS; call++)
+    heading(tables[way].by_size, "side", tables[way].last);
+    for (int call = tables[way].first; call <= DALES_AND_HILLS; call += DALES_AND_HILLS)
         for (int kind = RANDOM; kind <= SPIRAL; kind += SPIRAL)
             for (int i = 0; i < 4; i++) {
                 char label[32];
                 snprintf(label, sizeof label, "%3u %s", (unsigned)sides[i],
                          kind_names[kind]);
-                agree &= row(rule, label, sides[i], kind, call);
+                agree &= row(way, label, sides[i], kind, call);
             }
     return agree;
 }
@@ -421,7 +473,7 @@ static int by_size(int rule)
 /* With one post, times a post are times a call. */
 static int settings(void)
 {
-    heading("\nNanoseconds a call.", "sheet", last_column[LOWEST]);
+    heading("\nNanoseconds a call.", "sheet", tables[ORDINARY].last);
     return row(HIGHEST, "42 bytes", 1, FLAT, SETTINGS);
 }
 
@@ -436,9 +488,9 @@ int main(int argc, char **argv)
         return 2;
     }
     printf("Medians of %d rounds, lists warm.\n\n", rounds);
-    for (int rule = 0; rule < RULES; rule++) {
-        agree &= by_plot(rule);
-        agree &= by_size(rule);
+    for (int way = ORDINARY; way <= UNEVEN; way++) {
+        agree &= by_plot(way);
+        agree &= by_size(way);
     }
     agree &= settings();
     printf(agree ? "\nAll builds agree.\n" : "\nTHE BUILDS DISAGREE.\n");

@@ -19,21 +19,23 @@
                                const int32_t *, size_t, uint32_t, uint8_t *,   \
                                size_t);                                        \
     sn_next prefix##_next_down(const uint8_t *, size_t, uint32_t, uint32_t,    \
-                               const int32_t *, size_t, uint32_t);             \
+                               uint32_t, uint32_t, const int32_t *, size_t,    \
+                               uint32_t);                                      \
     sn_next prefix##_next_up(const uint8_t *, size_t, uint32_t, uint32_t,      \
-                             const int32_t *, size_t, uint32_t);               \
+                             uint32_t, uint32_t, const int32_t *, size_t,      \
+                             uint32_t);                                        \
     sn_entries prefix##_thalweg(const uint8_t *, size_t, uint32_t, uint32_t,   \
-                                const int32_t *, size_t, uint32_t, uint32_t,   \
-                                uint16_t *, size_t);                           \
+                                uint32_t, uint32_t, const int32_t *, size_t,   \
+                                uint32_t, uint32_t, uint16_t *, size_t);       \
     sn_entries prefix##_ridge(const uint8_t *, size_t, uint32_t, uint32_t,     \
-                              const int32_t *, size_t, uint32_t, uint32_t,     \
-                              uint16_t *, size_t);                             \
-    sn_answer prefix##_dales_and_hills(const uint8_t *, size_t, uint32_t,      \
-                                       uint32_t, const int32_t *, size_t,      \
-                                       uint16_t *, size_t, uint16_t *,         \
-                                       size_t);                                \
+                              uint32_t, uint32_t, const int32_t *, size_t,     \
+                              uint32_t, uint32_t, uint16_t *, size_t);         \
+    sn_answer prefix##_dales_and_hills(                                        \
+        const uint8_t *, size_t, uint32_t, uint32_t, uint32_t, uint32_t,       \
+        const int32_t *, size_t, uint16_t *, size_t, uint16_t *, size_t);      \
     sn_size prefix##_read_survey(const uint8_t *, size_t, int32_t *, size_t);  \
-    sn_answer prefix##_write_survey(uint32_t, uint32_t, const int32_t *,       \
-                                    size_t, uint8_t *, size_t)
+    sn_answer prefix##_write_survey(uint32_t, uint32_t, uint32_t, uint32_t,    \
+                                    const int32_t *, size_t, uint8_t *,        \
+                                    size_t)
 
 #endif
