@@ -15,5 +15,4 @@ pub mod Starred
 pub mod LevelGround
 pub mod SlopedGround
 pub mod ExampleFiles
-pub mod StarListing
 pub mod ExampleSheets

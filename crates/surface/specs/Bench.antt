@@ -9,6 +9,7 @@ use Rattle.surface.specs.Plot.{Plot, ruled, plot}
 use Rattle.surface.specs.Lines.{spacings}
 use Rattle.surface.specs.SurveyFile.{bytesOf, fileOf}
 use Rattle.surface.specs.Calls.{plotBy, settingsAnswer, settingsName, surveyAnswer, surveyMarks, ringList, nextDownAnswer, nextUpAnswer, thalwegAnswer, thalwegList, ridgeAnswer, ridgeList, readAnswer, readHeights}
+use Rattle.surface.specs.Lister.{textLine, printed}
 use Rattle.surface.specs.declared.Sheet.{Sheet}
 use Rattle.surface.specs.declared.Counts.{Counts}
 use Rattle.surface.specs.declared.Next.{Next}
@@ -20,21 +21,29 @@ use Rattle.surface.specs.declared.Spacings.{Spacings}
 abbrev pub metre : Spacings
 metre = spacings 100 100
 
+-- a settings sheet, by the bytes of its entries
+abbrev pub sheet : List ℕ → List ℕ
+sheet bytes = 1 ∷ bytesOf (length bytes) ++ bytes
+
+-- one that names rule 1 and no more; the plots below are read with it
+abbrev pub ruleOne : List ℕ
+ruleOne = sheet (1 ∷ 1 ∷ 1 ∷ [])
+
 -- 0 0 / 0 0
 abbrev pub flat : Plot
-flat = plot 2 2 (replicate 4 (pos 0))
+flat = plotBy ruleOne 2 2 (replicate 4 (pos 0))
 
 -- 5 0 / 0 5
 abbrev pub crossed : Plot
-crossed = plot 2 2 (pos 5 ∷ pos 0 ∷ pos 0 ∷ pos 5 ∷ [])
+crossed = plotBy ruleOne 2 2 (pos 5 ∷ pos 0 ∷ pos 0 ∷ pos 5 ∷ [])
 
 -- 0 2 0 / 2 1 2 / 0 2 0
 abbrev pub star : Plot
-star = plot 3 3 (pos 0 ∷ pos 2 ∷ pos 0 ∷ pos 2 ∷ pos 1 ∷ pos 2 ∷ pos 0 ∷ pos 2 ∷ pos 0 ∷ [])
+star = plotBy ruleOne 3 3 (pos 0 ∷ pos 2 ∷ pos 0 ∷ pos 2 ∷ pos 1 ∷ pos 2 ∷ pos 0 ∷ pos 2 ∷ pos 0 ∷ [])
 
 -- 1 1 1 / 1 0 1 / 1 1 1
 abbrev pub hollow : Plot
-hollow = plot 3 3 (pos 1 ∷ pos 1 ∷ pos 1 ∷ pos 1 ∷ pos 0 ∷ pos 1 ∷ pos 1 ∷ pos 1 ∷ pos 1 ∷ [])
+hollow = plotBy ruleOne 3 3 (pos 1 ∷ pos 1 ∷ pos 1 ∷ pos 1 ∷ pos 0 ∷ pos 1 ∷ pos 1 ∷ pos 1 ∷ pos 1 ∷ [])
 
 -- a 2 by 2 file of version 1, by the bytes of its four heights
 abbrev pub filed : List ℕ → List ℕ
@@ -107,6 +116,26 @@ pub record Starred : Type 0 where
   pub starCount : ridgeAnswer star metre 4 0 (entries 3) ≡ written 2
   pub starExact : ridgeList star metre 4 0 (entries 2) ≡ 4 ∷ 1 ∷ []
   pub starExactCount : ridgeAnswer star metre 4 0 (entries 2) ≡ written 2
+  -- its listing: N 3 3 4 1 3 / T 4 0 V / T 4 1 V / T 4 2 V / T 4 3 V / R 4 0 1 / R 4 1 5 / R 4 2 7 / R 4 3 3
+  pub starListing :
+      printed ruleOne (fileOf star metre)
+      ≡ textLine 78 ((51 ∷ []) ∷ (51 ∷ []) ∷ (52 ∷ []) ∷ (49 ∷ []) ∷ (51 ∷ []) ∷ [])
+      ++ textLine 84 ((52 ∷ []) ∷ (48 ∷ []) ∷ (86 ∷ []) ∷ [])
+      ++ textLine 84 ((52 ∷ []) ∷ (49 ∷ []) ∷ (86 ∷ []) ∷ [])
+      ++ textLine 84 ((52 ∷ []) ∷ (50 ∷ []) ∷ (86 ∷ []) ∷ [])
+      ++ textLine 84 ((52 ∷ []) ∷ (51 ∷ []) ∷ (86 ∷ []) ∷ [])
+      ++ textLine 82 ((52 ∷ []) ∷ (48 ∷ []) ∷ (49 ∷ []) ∷ [])
+      ++ textLine 82 ((52 ∷ []) ∷ (49 ∷ []) ∷ (53 ∷ []) ∷ [])
+      ++ textLine 82 ((52 ∷ []) ∷ (50 ∷ []) ∷ (55 ∷ []) ∷ [])
+      ++ textLine 82 ((52 ∷ []) ∷ (51 ∷ []) ∷ (51 ∷ []) ∷ [])
+  -- with no sheet: N 3 3 1 2 1 / T 1 0 4 / T 1 1 V / R 1 0 7 / R 1 1 7
+  pub starUnsaid :
+      printed [] (fileOf star metre)
+      ≡ textLine 78 ((51 ∷ []) ∷ (51 ∷ []) ∷ (49 ∷ []) ∷ (50 ∷ []) ∷ (49 ∷ []) ∷ [])
+      ++ textLine 84 ((49 ∷ []) ∷ (48 ∷ []) ∷ (52 ∷ []) ∷ [])
+      ++ textLine 84 ((49 ∷ []) ∷ (49 ∷ []) ∷ (86 ∷ []) ∷ [])
+      ++ textLine 82 ((49 ∷ []) ∷ (48 ∷ []) ∷ (55 ∷ []) ∷ [])
+      ++ textLine 82 ((49 ∷ []) ∷ (49 ∷ []) ∷ (55 ∷ []) ∷ [])
   -- run 2 of the crossed saddle: refusal 8
   pub crossedRun : thalwegAnswer crossed metre 2 2 (entries 4) ≡ refused 8
   pub crossedRunUp : ridgeAnswer crossed metre 2 2 (entries 4) ≡ refused 8
@@ -247,10 +276,6 @@ pub record ExampleFiles : Type 0 where
   pub noSpacingCut : readBy (2 ∷ 0 ∷ 0 ∷ 0 ∷ 6 ∷ 2 ∷ 2 ∷ 0 ∷ 0 ∷ 0 ∷ 4 ∷ []) ≡ unread 15
   pub count : readBy (2 ∷ 0 ∷ 0 ∷ 0 ∷ 18 ∷ 2 ∷ 2 ∷ 0 ∷ 1 ∷ 0 ∷ 1 ∷ replicate 12 0) ≡ unread 12
 
--- settings sheets, by the bytes of their entries
-abbrev pub sheet : List ℕ → List ℕ
-sheet bytes = 1 ∷ bytesOf (length bytes) ++ bytes
-
 -- rule 2, and the name pond
 abbrev pub pond : List ℕ
 pond = sheet (1 ∷ 1 ∷ 2 ∷ 2 ∷ 4 ∷ 112 ∷ 111 ∷ 110 ∷ 100 ∷ [])
@@ -266,10 +291,13 @@ abbrev pub unsaid : ℕ → Sheet
 unsaid code = record { code = code; place = 0; rule = 0; named = 0 }
 
 pub record ExampleSheets : Type 0 where
-  -- no sheet, and a sheet with no entry: rule 1, no name
-  pub none : told [] ≡ said 1 0
+  -- no sheet, and a sheet with no entry: rule 2, no name; with a name alone, rule 2 too
+  pub none : told [] ≡ said 2 0
   pub noneName : settingsName [] (marks 32) ≡ replicate 32 0
-  pub bare : told (sheet []) ≡ said 1 0
+  pub bare : told (sheet []) ≡ said 2 0
+  pub nameAlone : told (sheet (2 ∷ 1 ∷ 65 ∷ [])) ≡ said 2 1
+  -- rule 1, and no name
+  pub ruleAlone : told ruleOne ≡ said 1 0
   -- rule 2 and a name; in a list of 31 bytes, refusal 3
   pub whole : told pond ≡ said 2 4
   pub wholeName : settingsName pond (marks 32) ≡ (112 ∷ 111 ∷ 110 ∷ 100 ∷ []) ++ replicate 28 0

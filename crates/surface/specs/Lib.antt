@@ -43,5 +43,5 @@ pub mod Steepest
 pub mod Sheets
 pub mod Grounds
 pub mod FirstVersion
-pub mod Bench
 pub mod Lister
+pub mod Bench

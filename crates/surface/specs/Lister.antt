@@ -1,6 +1,5 @@
 -- docs/SPECIFICATION.md, "Lister": the text that it prints, as a list of bytes.
 use Prim.Native.Nat.{ℕ, zero, suc, _+_, _*_, _/_, _%_}
-use mathlib.Core.Path.{_≡_}
 use mathlib.Core.Bool.{cond}
 use mathlib.Core.List.{List, [], _∷_, _++_, flatten}
 use lib.Dec.{ltb, eqb}
@@ -10,9 +9,7 @@ use Rattle.surface.specs.Lists.{listOf, lastOr}
 use Rattle.surface.specs.Plot.{Plot, posts, virtualPit}
 use Rattle.surface.specs.Marks.{markAt, marksOf, peaks, pits, saddles}
 use Rattle.surface.specs.Lines.{Descent, runsOf, line, down, up, spacings}
-use Rattle.surface.specs.SurveyFile.{fileOf}
 use Rattle.surface.specs.Calls.{sheetSays, plotBy, readAnswer, readHeights}
-use Rattle.surface.specs.Bench.{star, metre}
 use Rattle.surface.specs.declared.Spacings.{Spacings}
 
 -- a number in decimal digits, without leading zeros; ten digits are enough for 32 bits
@@ -84,18 +81,3 @@ listing sheet file =
 -- this is tested.)
 unfoldable pub printed : List ℕ → List ℕ → List ℕ
 printed sheet input = listing (take 43 sheet) (take 57612 input)
-
--- the listing of the star plot
---     N 3 3 4 1 3 / T 4 0 V / T 4 1 V / T 4 2 V / T 4 3 V / R 4 0 1 / R 4 1 5 / R 4 2 7 / R 4 3 3
-abbrev pub StarListing : Type 0
-StarListing =
-    printed [] (fileOf star metre)
-    ≡ textLine 78 ((51 ∷ []) ∷ (51 ∷ []) ∷ (52 ∷ []) ∷ (49 ∷ []) ∷ (51 ∷ []) ∷ [])
-    ++ textLine 84 ((52 ∷ []) ∷ (48 ∷ []) ∷ (86 ∷ []) ∷ [])
-    ++ textLine 84 ((52 ∷ []) ∷ (49 ∷ []) ∷ (86 ∷ []) ∷ [])
-    ++ textLine 84 ((52 ∷ []) ∷ (50 ∷ []) ∷ (86 ∷ []) ∷ [])
-    ++ textLine 84 ((52 ∷ []) ∷ (51 ∷ []) ∷ (86 ∷ []) ∷ [])
-    ++ textLine 82 ((52 ∷ []) ∷ (48 ∷ []) ∷ (49 ∷ []) ∷ [])
-    ++ textLine 82 ((52 ∷ []) ∷ (49 ∷ []) ∷ (53 ∷ []) ∷ [])
-    ++ textLine 82 ((52 ∷ []) ∷ (50 ∷ []) ∷ (55 ∷ []) ∷ [])
-    ++ textLine 82 ((52 ∷ []) ∷ (51 ∷ []) ∷ (51 ∷ []) ∷ [])

@@ -27,7 +27,7 @@ isHeight z = not (ltZ z (negsuc 999999)) && not (ltZ (pos 1000000) z)
 
 -- the rule by which cells are cut, 1 through the lowest post of each or 2 through the highest, where nothing is said
 abbrev pub defaultRule : ℕ
-defaultRule = 1
+defaultRule = 2
 
 -- a plot as it is lent: its rows, its columns, the heights of its posts, and what its settings sheet says ("Settings sheet"): that the sheet is bad,
 -- that an entry of it is, for either of which a call is refused, and whether cells are cut through their highest posts

@@ -30,7 +30,7 @@ pub const LOWEST_RULE: u32 = 1;
 
 pub const HIGHEST_RULE: u32 = 2;
 
-pub const DEFAULT_RULE: u32 = 1;
+pub const DEFAULT_RULE: u32 = 2;
 
 // Which way a walk goes: down to a pit or up to a peak.
 pub const DOWN: bool = false;
