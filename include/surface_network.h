@@ -13,8 +13,8 @@
  *
  * Edges: the sides of each cell of four posts, one diagonal of the cell, and an
  * edge from each border post to the virtual pit. The diagonal goes through the
- * lowest post of the cell, or, by rule 2, through the highest: the settings sheet
- * that is lent to a call tells which (sn_settings). The ring of a post is its
+ * highest post of the cell (rule 2), or, where the settings sheet that is lent to a
+ * call names rule 1, through the lowest (sn_settings). The ring of a post is its
  * neighbours clockwise from north:
  *
  *     NW  N  NE        7 0 1
@@ -66,7 +66,7 @@ extern "C" {
 #endif
 
 /* Version of the library. The build takes it from these three lines. */
-#define SN_VERSION_MAJOR 3
+#define SN_VERSION_MAJOR 4
 #define SN_VERSION_MINOR 0
 #define SN_VERSION_PATCH 0
 #define SN_VERSION \
@@ -149,6 +149,10 @@ extern "C" {
 /* The two arguments that stand for a sheet where there is none: sn_survey(SN_NO_SHEET, rows, ..). */
 #define SN_NO_SHEET SN_NO_BYTES, 0
 
+/* The bytes of a sheet that names a rule and no more:
+   static const uint8_t sheet[] = SN_RULE_SHEET(SN_THROUGH_LOWEST); */
+#define SN_RULE_SHEET(rule) {SN_SHEET_VERSION, 0, 0, 0, 3, SN_ENTRY_RULE, 1, (rule)}
+
 /* Kinds of a sheet's entries. */
 enum {
     SN_ENTRY_RULE = 1, /* one byte: the rule */
@@ -159,7 +163,7 @@ enum {
 enum {
     SN_THROUGH_LOWEST = 1,  /* the one through its lowest post */
     SN_THROUGH_HIGHEST = 2, /* the one through its highest post */
-    SN_DEFAULT_RULE = SN_THROUGH_LOWEST /* where no sheet, or no entry of it, names one */
+    SN_DEFAULT_RULE = SN_THROUGH_HIGHEST /* where no sheet, or no entry of it, names one */
 };
 
 /* Marks, one byte a post. */
@@ -296,7 +300,8 @@ typedef struct sn_size {
  *
  * Every call that needs diagonals takes a sheet, as its first list. A sheet of
  * length 0 is no sheet (SN_NO_SHEET). No sheet, and one without SN_ENTRY_RULE, mean
- * SN_DEFAULT_RULE. A sheet that is refused is refused before anything else that the
+ * SN_DEFAULT_RULE, through the highest posts; whoever wants the other rule names it
+ * (SN_RULE_SHEET). A sheet that is refused is refused before anything else that the
  * call checks. Nothing is remembered: calls that belong together, as a survey and its
  * re-shoots, are lent sheets that mean one rule.
  *
