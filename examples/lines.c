@@ -1,6 +1,6 @@
 /*
- * Lists all lines of a plot, which has no settings sheet, and draws them on a map of its
- * posts.
+ * Lists all lines of a plot and draws them on a map of its posts. The plot has no settings
+ * sheet, so that diagonals go through the highest posts.
  *
  *     lines plot.svy
  *

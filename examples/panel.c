@@ -4,6 +4,9 @@
  * of its mark and its water line.
  *
  *     panel plot.svy [plot.set]
+ *
+ * Without a sheet diagonals go through the highest posts; one that names rule 1 is
+ * plots/lowest.set.
  */
 #include "surface_network.h"
 

@@ -42,18 +42,19 @@ typedef struct {
     const char *name;
 } sheet;
 
-enum { SHEETS = 37 };
+enum { SHEETS = 38 };
 
-/* First those that are accepted: none, no entry, one of them, and the longest. Then those
+/* First those that are accepted: none, no entry, one of them, both, and the longest. Then those
    that are not whole: cut off, of another version, with another count, with entries that do
    not end where the sheet ends. Then those with a kind, a length or a value that no sheet
    has. */
 static const sheet sheets[SHEETS] = {
-    {0, {0}, SN_OK, 1, ""},
-    {5, {1, 0, 0, 0, 0}, SN_OK, 1, ""},
+    {0, {0}, SN_OK, 2, ""},
+    {5, {1, 0, 0, 0, 0}, SN_OK, 2, ""},
     {8, {1, 0, 0, 0, 3, 1, 1, 1}, SN_OK, 1, ""},
     {8, {1, 0, 0, 0, 3, 1, 1, 2}, SN_OK, 2, ""},
-    {8, {1, 0, 0, 0, 3, 2, 1, 32}, SN_OK, 1, " "},
+    {8, {1, 0, 0, 0, 3, 2, 1, 32}, SN_OK, 2, " "},
+    {14, {1, 0, 0, 0, 9, 1, 1, 1, 2, 4, 'p', 'o', 'n', 'd'}, SN_OK, 1, "pond"},
     {14, {1, 0, 0, 0, 9, 1, 1, 2, 2, 4, 'p', 'o', 'n', 'd'}, SN_OK, 2, "pond"},
     {42, {1, 0, 0, 0, 37, 1, 1, 1, 2, 32, 32, 32, 32, 32, 32, 32, 32, 32, 32, 32, 32, 32, 32, 32,
           32, 126, 126, 126, 126, 126, 126, 126, 126, 126, 126, 126, 126, 126, 126, 126, 126, 126},

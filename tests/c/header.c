@@ -82,7 +82,7 @@ static void sheets_alone(void)
     check(SN_SHEET_VERSION == 1 && SN_SHEET_HEADER == 5, "what a sheet begins with");
     check(SN_ENTRY_RULE == 1 && SN_ENTRY_NAME == 2, "kinds of entries");
     check(SN_THROUGH_LOWEST == 1 && SN_THROUGH_HIGHEST == 2, "rules");
-    check(SN_DEFAULT_RULE == SN_THROUGH_LOWEST, "the rule where none is named");
+    check(SN_DEFAULT_RULE == SN_THROUGH_HIGHEST, "the rule where none is named");
     check(SN_MAX_NAME == 32, "the longest name");
     check(SN_MAX_SHEET == SN_SHEET_HEADER + 3 + 2 + SN_MAX_NAME, "the longest sheet");
     check(offsetof(sn_sheet, code) == 0 && offsetof(sn_sheet, place) == 4, "code and place");
@@ -91,11 +91,17 @@ static void sheets_alone(void)
     check(sizeof(sn_sheet) == 16, "the size of a sheet's answer");
 }
 
-/* The longest sheet, and none. */
+/* Sheets that name a rule and no more. */
+static const uint8_t rule_1[] = SN_RULE_SHEET(SN_THROUGH_LOWEST);
+static const uint8_t rule_2[] = SN_RULE_SHEET(SN_THROUGH_HIGHEST);
+#define RULE_1 rule_1, sizeof rule_1
+#define RULE_2 rule_2, sizeof rule_2
+
+/* The longest sheet, none, and those that name a rule. */
 static void settings(void)
 {
     static const uint8_t entries[10] = {SN_SHEET_VERSION, 0, 0, 0, SN_MAX_SHEET - SN_SHEET_HEADER,
-                                        SN_ENTRY_RULE, 1, SN_THROUGH_HIGHEST,
+                                        SN_ENTRY_RULE, 1, SN_THROUGH_LOWEST,
                                         SN_ENTRY_NAME, SN_MAX_NAME};
     uint8_t sheet[SN_MAX_SHEET], name[SN_MAX_NAME];
     sn_sheet said;
@@ -103,12 +109,16 @@ static void settings(void)
     memset(sheet, 'x', sizeof sheet);
     memcpy(sheet, entries, sizeof entries);
     said = sn_settings(sheet, SN_MAX_SHEET, name, SN_MAX_NAME);
-    check(said.code == SN_OK && said.rule == SN_THROUGH_HIGHEST, "the rule of a sheet");
+    check(said.code == SN_OK && said.rule == SN_THROUGH_LOWEST, "the rule of a sheet");
     check(said.name_length == SN_MAX_NAME && memcmp(name, sheet + 10, SN_MAX_NAME) == 0,
           "the name of a sheet");
     said = sn_settings(SN_NO_SHEET, name, SN_MAX_NAME);
     check(said.code == SN_OK && said.rule == SN_DEFAULT_RULE, "the rule of no sheet");
     check(said.name_length == 0 && name[0] == 0 && name[SN_MAX_NAME - 1] == 0, "no name");
+    said = sn_settings(RULE_1, name, SN_MAX_NAME);
+    check(said.code == SN_OK && said.rule == SN_THROUGH_LOWEST, "rule 1 named");
+    said = sn_settings(RULE_2, name, SN_MAX_NAME);
+    check(said.code == SN_OK && said.rule == SN_THROUGH_HIGHEST, "rule 2 named");
 }
 
 static void marks_alone(void)
@@ -123,7 +133,8 @@ static void marks_alone(void)
     }
 }
 
-/* A post has a thalweg and a ridge for each of its runs, and no more. */
+/* Here and below, by rule 1: a post has a thalweg and a ridge for each of its runs, and no
+   more. */
 static void lines_of(const int32_t *heights, uint32_t post, uint8_t mark)
 {
     uint16_t line[10];
@@ -131,8 +142,8 @@ static void lines_of(const int32_t *heights, uint32_t post, uint8_t mark)
     sn_entries down, up;
 
     for (run = 0; run <= runs; run++) {
-        down = sn_thalweg(SN_NO_SHEET, 3, 3, 100, 100, heights, 9, post, run, line, 10);
-        up = sn_ridge(SN_NO_SHEET, 3, 3, 100, 100, heights, 9, post, run, line, 10);
+        down = sn_thalweg(RULE_1, 3, 3, 100, 100, heights, 9, post, run, line, 10);
+        up = sn_ridge(RULE_1, 3, 3, 100, 100, heights, 9, post, run, line, 10);
         check(down.code == (run < runs ? 0 : end), "a thalweg for each run");
         check(up.code == (run < runs ? 0 : end), "a ridge for each run");
     }
@@ -159,7 +170,7 @@ static void ring_of(const int32_t *heights, uint32_t post, uint8_t mark)
 {
     uint8_t ring[SN_RING_LENGTH];
     uint32_t i, members = 0, starts = 0, above = 0;
-    sn_ring_mark got = sn_ring(SN_NO_SHEET, 3, 3, heights, 9, post, ring, SN_RING_LENGTH);
+    sn_ring_mark got = sn_ring(RULE_1, 3, 3, heights, 9, post, ring, SN_RING_LENGTH);
 
     while (members < SN_RING_LENGTH && ring[members] != SN_NO_MEMBER)
         members++;
@@ -181,7 +192,7 @@ static void marks_of(const int32_t *heights, uint8_t middle)
 {
     uint8_t marks[9];
     uint32_t post, sum = 0;
-    sn_counts counts = sn_survey(SN_NO_SHEET, 3, 3, heights, 9, marks, 9);
+    sn_counts counts = sn_survey(RULE_1, 3, 3, heights, 9, marks, 9);
 
     check(counts.code == SN_OK && marks[4] == middle, "the middle's mark");
     for (post = 0; post < 9; post++) {

@@ -14,7 +14,7 @@ pub const FIT: [(Rule, &[u8], &[Entry]); 9] = [
     (Rule::Highest, b"", &[(1, &[2])]),
     (Rule::Lowest, b"Lower field 7", &[(1, &[1]), (2, b"Lower field 7")]),
     (Rule::Highest, b"a", &[(1, &[2]), (2, b"a")]),
-    (Rule::Highest, &[b' '; 32], &[(1, &[2]), (2, &[b' '; 32])]),
+    (Rule::Lowest, &[b' '; 32], &[(1, &[1]), (2, &[b' '; 32])]),
 ];
 
 /// Entries of which one has an unknown kind, a kind not above the one before, or a length

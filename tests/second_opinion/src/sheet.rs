@@ -4,7 +4,7 @@ use crate::opinion::Refusal;
 use crate::surface::Rule;
 
 /// What holds where no entry names a rule, and where there is no sheet.
-pub const DEFAULT_RULE: Rule = Rule::Lowest;
+pub const DEFAULT_RULE: Rule = Rule::Highest;
 
 const RULE: u8 = 1;
 const NAME: u8 = 2;

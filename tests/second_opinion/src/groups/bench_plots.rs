@@ -29,6 +29,10 @@ const SURVEYS: [Survey; 10] = [
     (2, 3, RUNS, [2, 1, 1], &[0, 0, 1, 0, 0, 3, 0, 1, 0]),
 ];
 
+/// Sheets that name no rule: none, one without entries, and a name alone. They mean rule 2, by
+/// which star has one peak and a pit in its middle.
+const UNNAMED: [&[u8]; 3] = [&[], &[1, 0, 0, 0, 0], &[1, 0, 0, 0, 3, 2, 1, b'a']];
+
 /// Rule, side, heights, then for each post the codes of its ring, k and its mark.
 type Rings = (u8, u32, &'static [i32], &'static [([u8; 8], u32, u32)]);
 const RINGS: [Rings; 8] = [
@@ -205,6 +209,7 @@ const ROUNDINGS: [([i32; 4], [i32; 4]); 2] =
 pub fn bench_plots(t: &mut Tester) {
     t.group("bench plots");
     surveys(t);
+    unnamed(t);
     rings(t);
     lines(t);
     steepest(t);
@@ -224,6 +229,19 @@ fn surveys(t: &mut Tester) {
             law(answer[2..] == counts, "the counts", &call)?;
             law(left.marks == marks, "the marks", &call)
         }));
+    }
+}
+
+fn unnamed(t: &mut Tester) {
+    for sheet in UNNAMED {
+        let sheet = sheet.to_vec();
+        let call = Call { sheet, marks: vec![9; 9], ..square(Kind::Survey, 1, 3, STAR) };
+        t.case(t.agree(&call).and_then(|(answer, left)| {
+            law(answer[2..] == [1, 2, 1], "the counts", &call)?;
+            law(left.marks == [0, 3, 0, 0, 2, 0, 0, 1, 0], "the marks", &call)
+        }));
+        let call = Call { kind: Kind::Settings, name: vec![9; 32], ..call };
+        t.case(t.agree(&call).and_then(|(answer, _)| law(answer[2] == 2, "the rule", &call)));
     }
 }
 

@@ -191,7 +191,7 @@ fn settings(t: &mut Tester, lister: &Path, chance: &mut Chance) {
 /// The longest settings that are accepted, and longer ones, of which the first 43 bytes are
 /// judged: these may be a whole sheet, the name too long, whatever follows.
 fn long_settings(chance: &mut Chance) -> Vec<Vec<u8>> {
-    let longest = sheet_of(&[(1, &[2]), (2, &[b'a'; 32])]);
+    let longest = sheet_of(&[(1, &[1]), (2, &[b'a'; 32])]);
     let of_43 = sheet_of(&[(1, &[2]), (2, &[b'a'; 33])]);
     let of_44 = sheet_of(&[(1, &[2]), (2, &[b'a'; 32]), (3, &[])]);
     let mut all = vec![longest.clone(), of_43.clone(), of_44];

@@ -219,9 +219,9 @@ fn every_value(t: &mut Tester, chance: &mut Chance) {
         let n = byte as usize;
         let named = fit_or_14((1..=32).contains(&n));
         expect(t, fit_or_14(n == 1 || n == 2), &sheet_of(&[(1, &[byte])]), chance);
-        expect(t, fit_or_14(n == 1), &sheet_of(&[(1, &vec![2; n])]), chance);
+        expect(t, fit_or_14(n == 1), &sheet_of(&[(1, &vec![1; n])]), chance);
         expect(t, named, &sheet_of(&[(2, &vec![b'a'; n])]), chance);
-        expect(t, named, &sheet_of(&[(1, &[2]), (2, &vec![b'~'; n])]), chance);
+        expect(t, named, &sheet_of(&[(1, &[1]), (2, &vec![b'~'; n])]), chance);
         let ten = around(&[&[2, byte], &[b'a'; 10][..]].concat());
         expect(t, if n == 10 { 0 } else { 13 }, &ten, chance);
     }
@@ -234,7 +234,7 @@ fn every_kind(t: &mut Tester, chance: &mut Chance) {
         for value in [&[][..], &[1], &[2, 2], b"a", &[b'a'; 33]] {
             let (rule, name) = (kind == 1 && value == [1], kind == 2 && value == b"a");
             expect(t, fit_or_14(rule || name), &sheet_of(&[(kind, value)]), chance);
-            expect(t, fit_or_14(name), &sheet_of(&[(1, &[2]), (kind, value)]), chance);
+            expect(t, fit_or_14(name), &sheet_of(&[(1, &[1]), (kind, value)]), chance);
             expect(t, 14, &sheet_of(&[(1, &[2]), (2, b"a"), (kind, value)]), chance);
         }
     }
@@ -248,7 +248,7 @@ fn every_name_byte(t: &mut Tester, chance: &mut Chance) {
             for byte in 0..=255 {
                 let mut name = vec![b'x'; length];
                 name[place] = byte;
-                let sheet = sheet_of(&[(1, &[2]), (2, &name)]);
+                let sheet = sheet_of(&[(1, &[1]), (2, &name)]);
                 expect(t, fit_or_14((32..=126).contains(&byte)), &sheet, chance);
             }
         }
