@@ -124,12 +124,12 @@ static const char *const call_names[SETTINGS + 1] = {
     "thalweg", "ridge", "read", "read version 1", "write", "settings"
 };
 
-/* The longest sheet: the rule of the highest post, and a name of 32 bytes. */
+/* The longest sheet: the rule of the lowest post, and a name of 32 bytes. */
 static const uint8_t full_sheet[SN_MAX_SHEET] =
-    "\1\0\0\0\45" "\1\1\2" "\2\40" "the field beyond the old orchard";
+    "\1\0\0\0\45" "\1\1\1" "\2\40" "the field beyond the old orchard";
 
 /* The ways to call: the sheet and the spacings, and which line is drawn. The last is not timed. */
-enum { ORDINARY, HIGHEST, UNEVEN, UNEVEN_HIGHEST, WAYS };
+enum { ORDINARY, LOWEST, UNEVEN, UNEVEN_LOWEST, WAYS };
 static struct {
     const uint8_t *sheet;
     size_t length;
@@ -320,7 +320,7 @@ static void prepare(uint32_t a_side, int kind, int way, int call)
     memcpy(held, heights, sizeof held);
     if (call == THALWEG || call == RIDGE) {
         uint32_t entries = choose_line(ORDINARY, call, SN_MAX_LINE, 400);
-        for (int i = HIGHEST; i < WAYS; i++)
+        for (int i = LOWEST; i < WAYS; i++)
             (void)choose_line(i, call, entries, 40000);
     }
     (void)once(SCALAR, way, WRITE, 0);
@@ -405,7 +405,7 @@ static int agree_on(int way, int call)
 {
     uint64_t library = outcome(LIBRARY, way, call);
     return library == outcome(SCALAR, way, call) && library == outcome(VECTOR, way, call) &&
-           (way != UNEVEN || agree_on(UNEVEN_HIGHEST, call));
+           (way != UNEVEN || agree_on(UNEVEN_LOWEST, call));
 }
 
 static int row(int way, const char *right, uint32_t a_side, int kind, int call)
@@ -431,13 +431,13 @@ static const struct {
     const char *by_plot, *by_size, *last;
 } tables[UNEVEN + 1] = {
     {SURVEY, SETTINGS,
-     "Nanoseconds a post at 120 by 120. Rule 1, no sheet, spacings 100 and 100.",
-     "\nBy size. Rule 1.", "lib us/call"},
+     "Nanoseconds a post at 120 by 120. Rule 2, no sheet, spacings 100 and 100.",
+     "\nBy size. Rule 2.", "lib us/call"},
     {SURVEY, READ,
-     "\nNanoseconds a post at 120 by 120. Rule 2, a sheet of 42 bytes.",
-     "\nBy size. Rule 2.", "lib rule 2/1"},
+     "\nNanoseconds a post at 120 by 120. Rule 1, a sheet of 42 bytes.",
+     "\nBy size. Rule 1.", "lib rule 1/2"},
     {DALES_AND_HILLS, READ,
-     "\nNanoseconds a post at 120 by 120. Rule 1, spacings 100 along a row, 250 along a column.",
+     "\nNanoseconds a post at 120 by 120. Rule 2, spacings 100 along a row, 250 along a column.",
      "\nBy size. Spacings 100 and 250.", "lib 250/100"}
 };
 
@@ -474,7 +474,7 @@ static int by_size(int way)
 static int settings(void)
 {
     heading("\nNanoseconds a call.", "sheet", tables[ORDINARY].last);
-    return row(HIGHEST, "42 bytes", 1, FLAT, SETTINGS);
+    return row(LOWEST, "42 bytes", 1, FLAT, SETTINGS);
 }
 
 int main(int argc, char **argv)
