@@ -149,7 +149,7 @@ extern "C" {
 /* The two arguments that stand for a sheet where there is none: sn_survey(SN_NO_SHEET, rows, ..). */
 #define SN_NO_SHEET SN_NO_BYTES, 0
 
-/* The bytes of a sheet that names a rule and no more:
+/* The bytes of a sheet that names a rule, one of the two constants below, and no more:
    static const uint8_t sheet[] = SN_RULE_SHEET(SN_THROUGH_LOWEST); */
 #define SN_RULE_SHEET(rule) {SN_SHEET_VERSION, 0, 0, 0, 3, SN_ENTRY_RULE, 1, (rule)}
 

@@ -450,11 +450,13 @@ static void lines_turned(void)
     line(sn_thalweg, &turn_wide, 9, 1, 3, SN_OK, 2, 9, V, 7, "a run that holds the virtual pit");
 }
 
-/* Every call that takes spacings turns these away, after the sides and before the lists. */
+/* Every call that takes spacings turns these away, after the sides and before the lists. By
+   rule 1 post 2 is a saddle, so that its lines could be written. */
 static void refused_spacings(uint32_t along_row, uint32_t along_column)
 {
     static const uint32_t rows[3] = {2, 2, 1};
     static const size_t lengths[3] = {4, 3, 3};
+    static const uint8_t named[] = SN_RULE_SHEET(SN_THROUGH_LOWEST);
     int32_t heights[4] = {5, 0, 0, 5};
     uint16_t dales[4] = {7, 7, 7, 7}, hills[4] = {7, 7, 7, 7};
     uint8_t file[SN_FILE_SIZE(2, 2)] = {7};
@@ -464,12 +466,12 @@ static void refused_spacings(uint32_t along_row, uint32_t along_column)
         uint32_t r = rows[i], a = along_row, b = along_column;
         uint32_t code = r == 1 ? (uint32_t)SN_BAD_SIDES : (uint32_t)SN_BAD_SPACING;
         size_t n = lengths[i];
-        sn_next down = sn_next_down(SN_NO_SHEET, r, 2, a, b, heights, n, 2);
-        sn_next up = sn_next_up(SN_NO_SHEET, r, 2, a, b, heights, n, 2);
-        sn_entries water = sn_thalweg(SN_NO_SHEET, r, 2, a, b, heights, n, 2, 0, dales, 4);
-        sn_entries crest = sn_ridge(SN_NO_SHEET, r, 2, a, b, heights, n, 2, 0, hills, 4);
-        sn_answer parts = sn_dales_and_hills(SN_NO_SHEET, r, 2, a, b, heights, n, dales, 4, hills,
-                                             4);
+        size_t s = sizeof named;
+        sn_next down = sn_next_down(named, s, r, 2, a, b, heights, n, 2);
+        sn_next up = sn_next_up(named, s, r, 2, a, b, heights, n, 2);
+        sn_entries water = sn_thalweg(named, s, r, 2, a, b, heights, n, 2, 0, dales, 4);
+        sn_entries crest = sn_ridge(named, s, r, 2, a, b, heights, n, 2, 0, hills, 4);
+        sn_answer parts = sn_dales_and_hills(named, s, r, 2, a, b, heights, n, dales, 4, hills, 4);
         sn_answer wrote = sn_write_survey(r, 2, a, b, heights, n, file, sizeof file);
         check(down.code == code && !down.place && !down.post, "next down, its spacings");
         check(up.code == code && !up.place && !up.post, "next up, its spacings");

@@ -25,7 +25,7 @@ metre = spacings 100 100
 abbrev pub sheet : List ℕ → List ℕ
 sheet bytes = 1 ∷ bytesOf (length bytes) ++ bytes
 
--- one that names rule 1 and no more; the plots below are read with it
+-- one that names rule 1 and no more; flat, crossed, star and hollow are read with it
 abbrev pub ruleOne : List ℕ
 ruleOne = sheet (1 ∷ 1 ∷ 1 ∷ [])
 
@@ -129,7 +129,7 @@ pub record Starred : Type 0 where
       ++ textLine 82 ((52 ∷ []) ∷ (50 ∷ []) ∷ (55 ∷ []) ∷ [])
       ++ textLine 82 ((52 ∷ []) ∷ (51 ∷ []) ∷ (51 ∷ []) ∷ [])
   -- with no sheet: N 3 3 1 2 1 / T 1 0 4 / T 1 1 V / R 1 0 7 / R 1 1 7
-  pub starUnsaid :
+  pub starNoSheet :
       printed [] (fileOf star metre)
       ≡ textLine 78 ((51 ∷ []) ∷ (51 ∷ []) ∷ (49 ∷ []) ∷ (50 ∷ []) ∷ (49 ∷ []) ∷ [])
       ++ textLine 84 ((49 ∷ []) ∷ (48 ∷ []) ∷ (52 ∷ []) ∷ [])
