@@ -10,7 +10,7 @@ use Rattle.surface.specs.Marks.{markFor, mark, markAt, marksOf}
 use Rattle.surface.specs.Codes.{memberCode, codesOf, ringBytes}
 use Rattle.surface.specs.Lines.{isEnd, next, squaredLength, squaredDrop, steeper, steepest}
 use Rattle.surface.specs.SurveyFile.{wordAt, bytesOf}
-use Rattle.surface.specs.Settings.{entriesIn, entriesOf, extent, isBadSheet, areEntries, hasBadEntry, valueOf, ruleIn, nameIn}
+use Rattle.surface.specs.Settings.{entriesIn, entriesOf, extent, isBadSheet, areEntries, hasBadEntry, valueOf, ruleIn}
 use Rattle.surface.specs.Refusals.{verdict, sheetVerdict, surveyVerdict, ringVerdict, nextVerdict}
 use Rattle.surface.specs.Calls.{sheetSays, surveyMarks, ringList, nextDownAnswer, nextUpAnswer}
 use Rattle.surface.specs.Bench.{metre, marks, wide, square, oddChannel, evenChannel, bay, goes, LevelGround}
@@ -21,7 +21,7 @@ each A f t true = t
 each A f t false = f
 
 pub level-ground : LevelGround
-unfolding listOf filter any all takeWhile lastOr count total firstNot virtualPit drivenBefore below lowest lowestOr throughLowest members places ring runs runsFrom markFor mark markAt marksOf ringOf memberCode codesOf ringBytes isEnd next squaredLength squaredDrop steeper steepest wordAt bytesOf entriesIn entriesOf extent isBadSheet areEntries hasBadEntry valueOf ruleIn nameIn verdict sheetVerdict surveyVerdict ringVerdict nextVerdict sheetSays surveyMarks ringList nextDownAnswer nextUpAnswer
+unfolding listOf filter any all takeWhile lastOr count total firstNot virtualPit drivenBefore below lowest lowestOr throughLowest members places ring runs runsFrom markFor mark markAt marksOf ringOf memberCode codesOf ringBytes isEnd next squaredLength squaredDrop steeper steepest wordAt bytesOf entriesIn entriesOf extent isBadSheet areEntries hasBadEntry valueOf ruleIn verdict sheetVerdict surveyVerdict ringVerdict nextVerdict sheetSays surveyMarks ringList nextDownAnswer nextUpAnswer
 level-ground =
     record {
       flatRing = refl;
