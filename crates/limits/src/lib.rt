@@ -15,7 +15,7 @@ ghost use lib.Dec.{ltb, eqb};
 ghost use lib.ListN.{length};
 ghost use Rattle.surface.specs.Lists.{all, firstNot};
 ghost use Rattle.surface.specs.Plot.{plot, maxPosts, isSide, isHeight};
-ghost use Rattle.surface.specs.Lines.{isSpacing};
+ghost use Rattle.surface.specs.Spacings.{isSpacing};
 ghost use Rattle.surface.specs.Refusals.{verdict, rowOf, row1, row2, row4, row15, sheetRows, leading, leadingSpaced, nextVerdict};
 ghost use Rattle.surface.specs.Calls.{plotSaid};
 

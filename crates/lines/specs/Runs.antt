@@ -9,7 +9,8 @@ use Rattle.surface.specs.Lists.{takeWhile}
 use Rattle.surface.specs.Plot.{Plot, below, directed, PostOf}
 use Rattle.surface.specs.Edges.{runs, ringOf}
 use Rattle.surface.specs.Marks.{markAt}
-use Rattle.surface.specs.Lines.{Descent, Spaced, runsOf, lineStart}
+use Rattle.surface.specs.Lines.{Descent, runsOf, lineStart}
+use Rattle.surface.specs.Spacings.{Spaced}
 use Rattle.surface.specs.declared.Spacings.{Spacings}
 use Rattle.post.specs.declared.ring.Ring.{Ring}
 use Rattle.post.specs.Rings.{held, Holds}

@@ -3,7 +3,8 @@ use Prim.Native.Nat.{ℕ, _<_}
 use mathlib.Core.List.{List}
 use lib.ListN.{length}
 use Rattle.surface.specs.Plot.{Plot, posts, Vertex, Valid}
-use Rattle.surface.specs.Lines.{Spaced, walk, toward}
+use Rattle.surface.specs.Spacings.{Spaced}
+use Rattle.surface.specs.Lines.{walk, toward}
 use Rattle.surface.specs.declared.Spacings.{Spacings}
 use Rattle.lines.specs.declared.walk.Walk.{Walk}
 

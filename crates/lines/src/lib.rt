@@ -17,7 +17,8 @@ use surface::Sheet;
 use surface::Spacings;
 use surface::UP;
 ghost use mathlib.Core.Path.{_≡_};
-ghost use Rattle.surface.specs.Lines.{toward, spacings};
+ghost use Rattle.surface.specs.Lines.{toward};
+ghost use Rattle.surface.specs.Spacings.{spacings};
 ghost use Rattle.surface.specs.Calls.{plotSaid, plotBy, nextAnswer, nextDownAnswer, nextUpAnswer, thalwegAnswer, thalwegList, ridgeAnswer, ridgeList};
 
 // Next down, or next up, from a post, by what the sheet says.

@@ -9,7 +9,8 @@ ghost use mathlib.Core.List.{_++_};
 ghost use Prim.Native.Nat.{_+_, _≤_, _<_};
 ghost use lib.ListN.{length, getD};
 ghost use Rattle.surface.specs.Plot.{plotOf, below, directed};
-ghost use Rattle.surface.specs.Lines.{Spaced, toward};
+ghost use Rattle.surface.specs.Spacings.{Spaced};
+ghost use Rattle.surface.specs.Lines.{toward};
 ghost use Rattle.post.specs.Rings.{held};
 ghost use Rattle.lines.specs.Runs.{Saddle, InRun, StartsAt, pickFrom, Starts};
 

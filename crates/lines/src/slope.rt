@@ -12,7 +12,8 @@ ghost use lib.ListN.{length, getD};
 ghost use Rattle.surface.specs.Lists.{all};
 ghost use Rattle.surface.specs.Plot.{plotOf, posts, isHeight, Vertex, below, directed, PostOf};
 ghost use Rattle.surface.specs.Edges.{lowerOf};
-ghost use Rattle.surface.specs.Lines.{Spaced, squared, squaredLength, before};
+ghost use Rattle.surface.specs.Spacings.{Spaced};
+ghost use Rattle.surface.specs.Lines.{squared, squaredLength, before};
 ghost use Rattle.lines.specs.Slopes.{ahead};
 
 // How far apart two heights are.

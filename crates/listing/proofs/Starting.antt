@@ -9,7 +9,7 @@ use lib.Dec.{eqb}
 use lib.IntN.{ℤ, pos}
 use lib.ListN.{length, replicate, length-replicate}
 use Rattle.surface.specs.Plot.{Plot, ruled, posts, maxSide, isSide, Valid}
-use Rattle.surface.specs.Lines.{spacings}
+use Rattle.surface.specs.Spacings.{spacings}
 use Rattle.surface.specs.Refusals.{verdict, readVerdict}
 use Rattle.surface.specs.Calls.{sheetSays, plotBy, readAnswer, readHeights, surveyAnswer, partsDales, partsHills}
 use Rattle.surface.specs.Lister.{decimal, textLine, headLine, plotText, refusedText, fileListing, listing}

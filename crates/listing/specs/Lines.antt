@@ -7,7 +7,8 @@ use lib.Dec.{eqb}
 use lib.ListN.{length, getD, take, drop}
 use Rattle.surface.specs.Lists.{listOf}
 use Rattle.surface.specs.Plot.{Plot, posts, virtualPit, Valid}
-use Rattle.surface.specs.Lines.{Descent, Spaced, end, line, toward, dalesOf, hillsOf}
+use Rattle.surface.specs.Lines.{Descent, end, line, toward, dalesOf, hillsOf}
+use Rattle.surface.specs.Spacings.{Spaced}
 use Rattle.surface.specs.Lister.{lineText, postLines}
 use Rattle.surface.specs.declared.Spacings.{Spacings}
 use Rattle.post.specs.declared.ring.Ring.{Ring}

@@ -11,13 +11,14 @@ use native.Mathlib.Omega.{arith}
 use borrow.Author.Tests.{eq-eqb, ne-eqb, not-false}
 use Rattle.surface.specs.Plot.{Plot, below, reversed, directed, PostOf}
 use Rattle.surface.specs.Edges.{lowerOf, throughLowest, lowest, Place, place, top, bottom, left, right, isBorder, fallsIn}
-use Rattle.surface.specs.Lines.{Spaced, next, toward}
+use Rattle.surface.specs.Spacings.{Spaced}
+use Rattle.surface.specs.Lines.{next, toward}
 use Rattle.surface.specs.declared.Spacings.{Spacings}
-use Rattle.surface.specs.Flags.{flipped}
+use Rattle.surface.specs.Lists.{flipped}
 use Rattle.surface.proofs.General.Bools.{either, or-left, or-right}
 use Rattle.surface.proofs.AnyOrder.Grid.{top-false, not-left}
 use Rattle.surface.proofs.AnyOrder.Locality.{read-agree}
-use Rattle.surface.proofs.AnyOrder.Order.{StrictTotal}
+use Rattle.surface.proofs.General.Order.{StrictTotal}
 use Rattle.surface.proofs.AnyOrder.Lowest.{lowest-member, lowest-least}
 use Rattle.post.specs.Corners.{bordersOf, cornersOf}
 use Rattle.post.specs.declared.border.Borders.{Borders}

@@ -12,12 +12,13 @@ use lib.IntN.{pos}
 use lib.Signed.{ltZ, mag}
 use borrow.Author.Tests.{ltb-false, eq-eqb, ne-eqb}
 use Rattle.surface.specs.Plot.{Plot, posts, row, column, isHeight, height, below, directed, PostOf}
-use Rattle.surface.specs.Lines.{Spaced, squared, squaredLength, squaredDrop}
+use Rattle.surface.specs.Spacings.{Spaced}
+use Rattle.surface.specs.Lines.{squared, squaredLength, squaredDrop}
 use Rattle.surface.specs.declared.Spacings.{Spacings}
 use Rattle.surface.proofs.General.Bools.{either}
 use Rattle.surface.proofs.General.FirstNot.{all-at}
 use Rattle.surface.proofs.AnyOrder.Grid.{not-pit}
-use Rattle.surface.proofs.AnyOrder.Order.{StrictTotal}
+use Rattle.surface.proofs.General.Order.{StrictTotal}
 use Rattle.surface.proofs.OfPlots.HeightOrder.{below-strict, height-below}
 use Rattle.surface.proofs.OfPlots.Counted.{counted, counted-less, counted-apart, height-mag}
 use Rattle.order.specs.Ties.{Stands}

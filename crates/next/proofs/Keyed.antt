@@ -17,12 +17,13 @@ use lib.Signed.{ltZ, mag}
 use borrow.Author.Tests.{ltb-true, ltb-false, lt-ltb, le-ltb, not-true}
 use Rattle.surface.specs.Plot.{Plot, below, directed, isHeight, height, virtualPit, Sides, PostOf}
 use Rattle.surface.specs.Edges.{lowerOf, Place, place, isBorder, top, bottom, left, right}
-use Rattle.surface.specs.Lines.{Spaced, squared, squaredLength, squaredDrop, next, toward}
+use Rattle.surface.specs.Spacings.{Spaced}
+use Rattle.surface.specs.Lines.{squared, squaredLength, squaredDrop, next, toward}
 use Rattle.surface.specs.declared.Spacings.{Spacings}
-use Rattle.surface.specs.Flags.{flipped}
+use Rattle.surface.specs.Lists.{flipped}
 use Rattle.surface.proofs.General.Bools.{either, and-left}
 use Rattle.surface.proofs.General.FirstNot.{all-at}
-use Rattle.surface.proofs.AnyOrder.Order.{StrictTotal}
+use Rattle.surface.proofs.General.Order.{StrictTotal}
 use Rattle.surface.proofs.OfPlots.HeightOrder.{below-lex}
 use Rattle.surface.proofs.OfPlots.Steepest.{length-some}
 use Rattle.order.specs.Ties.{Near, tiePlace}

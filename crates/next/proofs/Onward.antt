@@ -9,12 +9,13 @@ use mathlib.Core.Bool.{Bool, true, false, cond, not, _&&_, _||_, or-true, and-fa
 use lib.Dec.{ltb}
 use borrow.Author.Tests.{le-ltb}
 use Rattle.surface.specs.Plot.{Plot}
-use Rattle.surface.specs.Lines.{Spaced, squaredLength, squaredDrop, steeper, before}
+use Rattle.surface.specs.Spacings.{Spaced}
+use Rattle.surface.specs.Lines.{squaredLength, squaredDrop, steeper, before}
 use Rattle.surface.specs.declared.Spacings.{Spacings}
 use Rattle.surface.proofs.General.Bools.{either}
-use Rattle.surface.proofs.AnyOrder.Order.{StrictTotal}
-use Rattle.surface.proofs.AnyOrder.Lex.{lex}
-use Rattle.surface.proofs.AnyOrder.Slopes.{steep, slopes-strict}
+use Rattle.surface.proofs.General.Order.{StrictTotal}
+use Rattle.surface.proofs.General.Lex.{lex}
+use Rattle.surface.proofs.General.Slopes.{steep, slopes-strict}
 use Rattle.surface.proofs.OfPlots.Steepest.{length-some}
 
 module _ (pl : Plot) (s : Spacings) (lower : ℕ → ℕ → Bool) (p : ℕ) where

@@ -10,13 +10,15 @@ use borrow.Author.Tests.{eqb-true, eqb-false, ne-eqb}
 use Rattle.surface.specs.Lists.{keep, any, filter}
 use Rattle.surface.specs.Plot.{Plot, virtualPit, below, reversed, directed, PostOf}
 use Rattle.surface.specs.Edges.{lowerOf, lowest, lowestOr, Place, place, members, places, ring, top, bottom, left, right, isBorder, fallsIn, ringOf}
-use Rattle.surface.specs.Lines.{Spaced, before, steepest, isEnd, next, toward}
+use Rattle.surface.specs.Spacings.{Spaced}
+use Rattle.surface.specs.Lines.{before, steepest, isEnd, next, toward}
 use Rattle.surface.specs.declared.Spacings.{Spacings}
 use Rattle.surface.proofs.General.Bools.{either}
 use Rattle.surface.proofs.AnyOrder.Grid.{not-pit, top-false}
 use Rattle.surface.proofs.AnyOrder.RingPlaces.{diagonal}
 use Rattle.surface.proofs.AnyOrder.RingEdges.{ring-pit}
-use Rattle.surface.proofs.AnyOrder.Order.{StrictTotal, directed-strict}
+use Rattle.surface.proofs.General.Order.{StrictTotal}
+use Rattle.surface.proofs.AnyOrder.Order.{directed-strict}
 use Rattle.surface.proofs.AnyOrder.Walks.{filter-member}
 use Rattle.surface.proofs.OfPlots.HeightOrder.{below-strict, not-below-pit}
 use Rattle.surface.proofs.OfPlots.Steepest.{no-pit}

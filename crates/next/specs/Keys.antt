@@ -7,8 +7,9 @@ use lib.Dec.{ltb}
 use lib.IntN.{ℤ, pos, negsuc, natAbs, _+ℤ_, _-ℤ_, _*ℤ_}
 use lib.Signed.{ltZ, shrZ}
 use Rattle.surface.specs.Plot.{Plot, posts, height}
-use Rattle.surface.specs.Lines.{squared, spacings}
-use Rattle.surface.specs.Flags.{flipped}
+use Rattle.surface.specs.Lines.{squared}
+use Rattle.surface.specs.Spacings.{spacings}
+use Rattle.surface.specs.Lists.{flipped}
 use Rattle.surface.specs.declared.Spacings.{Spacings}
 use Rattle.order.specs.Ties.{Stands, tiePlace}
 use Rattle.post.specs.declared.border.Borders.{Borders}

@@ -15,7 +15,8 @@ ghost use mathlib.Core.Path.{_≡_};
 ghost use mathlib.Core.Bool.{true, false};
 ghost use Rattle.surface.specs.Plot.{plotOf, row, isOdd, PostOf};
 ghost use Rattle.surface.specs.Edges.{isBorder};
-ghost use Rattle.surface.specs.Lines.{Spaced, next, toward, up};
+ghost use Rattle.surface.specs.Spacings.{Spaced};
+ghost use Rattle.surface.specs.Lines.{next, toward, up};
 
 // Next down, or where `up` next up, from a post on no border, in an odd row or not. The rule is told beside the grid, and equal spacings by `even`, so that
 // a caller for whom they are constants has a step of its own.

@@ -8,7 +8,7 @@ use mathlib.Core.Bool.{Bool, true, false, cond, not, true≢false}
 use lib.Dec.{ltb, eqb}
 use borrow.Author.Tests.{ltb-true, ltb-false, lt-ltb, le-ltb}
 use Rattle.surface.specs.Plot.{row, column, directed, isOdd, drivenBefore, Sides}
-use Rattle.surface.specs.Flags.{flipped}
+use Rattle.surface.specs.Lists.{flipped}
 use Rattle.surface.proofs.General.Bools.{either, not-not}
 use Rattle.surface.proofs.AnyOrder.Grid.{post-is, column-lt, row-ge}
 use Rattle.surface.proofs.OfPlots.Driven.{driven-strict, odd-next, rows-turned, row-driven}

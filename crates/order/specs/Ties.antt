@@ -4,7 +4,7 @@ use mathlib.Core.Path.{_≡_}
 use mathlib.Core.Bool.{Bool, cond, not}
 use lib.Dec.{eqb}
 use Rattle.surface.specs.Plot.{row, column, isOdd, drivenBefore}
-use Rattle.surface.specs.Flags.{flipped}
+use Rattle.surface.specs.Lists.{flipped}
 
 -- n pairs of posts, from q and from p on: `tie` tells of each whether the first is driven past before the second
 pub record Drives (columns : ℕ) (tie : Bool) (p q n : ℕ) : Type 0 where

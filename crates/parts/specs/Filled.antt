@@ -5,7 +5,8 @@ use mathlib.Core.List.{List}
 use lib.ListN.{length}
 use Rattle.surface.specs.Lists.{stores}
 use Rattle.surface.specs.Plot.{Plot, posts, Valid}
-use Rattle.surface.specs.Lines.{Spaced, next, down, up}
+use Rattle.surface.specs.Spacings.{Spaced}
+use Rattle.surface.specs.Lines.{next, down, up}
 use Rattle.surface.specs.declared.Spacings.{Spacings}
 
 -- a plot, the spacings of its posts, and two lists of its size

@@ -16,7 +16,7 @@ use surface::Sheet;
 use surface::Spacings;
 use surface::UP;
 ghost use mathlib.Core.Path.{_≡_};
-ghost use Rattle.surface.specs.Lines.{spacings};
+ghost use Rattle.surface.specs.Spacings.{spacings};
 ghost use Rattle.surface.specs.Refusals.{partsVerdict};
 ghost use Rattle.surface.specs.Calls.{plotSaid, plotBy, partsAnswer, partsDales, partsHills};
 

@@ -10,7 +10,7 @@ use lib.ListN.{length, getD, length-drop}
 use lib.Seq.{getD-drop}
 use Rattle.surface.specs.Lists.{listOf}
 use Rattle.surface.specs.Plot.{defaultRule}
-use Rattle.surface.specs.SurveyFile.{wordAt}
+use Rattle.surface.specs.Words.{wordAt}
 use Rattle.surface.specs.Settings.{entriesIn, entriesOf, extent, isBadSheet, areEntries, hasBadEntry, valueOf, ruleIn, nameIn, nameLength, nameBytes}
 use Rattle.surface.specs.Refusals.{Row, accepted, verdict, row3, row13, row14, sheetRows, sheetVerdict, settingsVerdict}
 use Rattle.surface.specs.Calls.{sheetSays, settingsAnswer, settingsName}

@@ -6,8 +6,6 @@ pub mod RingEdges
 pub mod Offsets
 pub mod RingOnce
 pub mod Order
-pub mod Lex
-pub mod Slopes
 pub mod Lowest
 pub mod CellFlags
 pub mod Runs

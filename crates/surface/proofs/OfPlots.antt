@@ -7,3 +7,4 @@ pub mod Instance
 pub mod Patterns
 pub mod Redrawn
 pub mod Codes
+pub mod SurveyFile

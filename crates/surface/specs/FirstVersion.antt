@@ -7,8 +7,9 @@ use lib.Dec.{eqb}
 use lib.IntN.{ℤ}
 use lib.ListN.{length, getD}
 use Rattle.surface.specs.Lists.{listOf}
-use Rattle.surface.specs.Lines.{spacings}
-use Rattle.surface.specs.SurveyFile.{versionIn, wordAt, signed, statedCount, spacingsIn, isTenths, rounded, heightsIn}
+use Rattle.surface.specs.Spacings.{spacings}
+use Rattle.surface.specs.SurveyFile.{versionIn, statedCount, spacingsIn, isTenths, rounded, heightsIn}
+use Rattle.surface.specs.Words.{wordAt, signed}
 use Rattle.surface.specs.Refusals.{verdict, rowOf, row1, row3, row4, row10, readVerdict}
 
 module _ (file : List ℕ) where

@@ -3,14 +3,11 @@
 -- Beyond a border is the virtual pit, which is below every post and not below itself.
 use Prim.Native.Nat.{ℕ, _+_, _-_, _*_}
 use mathlib.Core.Bool.{Bool, cond, not, _&&_, _||_}
-use lib.Dec.{ltb, eqb}
+use lib.Dec.{eqb}
 use Rattle.surface.specs.Lists.{one}
 use Rattle.surface.specs.Plot.{Plot, below}
 use Rattle.surface.specs.Edges.{top, bottom, left, right}
-
--- a flag, or its contrary
-abbrev pub flipped : Bool → Bool → Bool
-flipped h x = cond h (not x) x
+use Rattle.surface.specs.Marks.{isSaddle}
 
 -- the sign at a corner, joined to the post or not, by that of the side before it, by whether the corner is below the post, and by whether it is below
 -- the side after it: by rule 2, and by rule 1
@@ -71,4 +68,4 @@ markBy first k = cond (eqb k 0) (cond first 1 2) (cond (eqb k 1) 0 (k + 1))
 
 -- the lower runs that a mark tells of: none at a pit, one at a peak or an ordinary post, one less than the mark at a saddle
 unfoldable pub runsFor : ℕ → ℕ
-runsFor m = cond (ltb m 3) (one (not (eqb m 2))) (m - 1)
+runsFor m = cond (isSaddle m) (m - 1) (one (not (eqb m 2)))

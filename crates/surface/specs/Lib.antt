@@ -1,7 +1,5 @@
--- The definitions of docs/SPECIFICATION.md, a file for each of its sections. These files are what a reader must believe; the laws are in proofs/.
--- (Lists, Flags, Patterns, Rounding, FirstVersion, Demand, Steepest, Sheets and Grounds are no sections of their own. Flags and Patterns serve the code, and
--- no promise of a call cites them; Patterns has the changes of side of "Marks and counts". Rounding belongs to "Survey file", and FirstVersion states what
--- is proved of version 1; Demand states what is proved of them all, Steepest of next and lines, Sheets of settings sheets, and Grounds of the ring call.)
+-- The definitions of docs/SPECIFICATION.md, a file for each of its sections, or a few. These files are what a reader must believe; the laws are in proofs/.
+-- They stand on the floors of proofs/ (see its Lib.antt): a file uses definitions of its own floor and of those before it.
 --
 -- To read them without knowing the language:
 --     f : A → B, and below it f x = ..       a definition with its type; `abbrev`, `unfoldable` and `pub` may be skipped
@@ -24,24 +22,39 @@
 --     record { x = ..; y = .. }   a .x       a value of named parts; its part x, also written a.x
 --     data D where a b : ..                  the values, or the proofs, of D are made by a and b alone
 --     module _ (x : A) where ..              every definition in it takes x as a further, first argument
+-- General: lists, rounding and numbers as files have them.
 pub mod Lists
+pub mod Rounding
+pub mod Words
+-- AnyOrder and OfPlots: the ground. (Flags and Patterns serve the code, and no promise of a call cites them; Patterns has the changes of side of "Marks and
+-- counts".)
 pub mod Plot
 pub mod Edges
+pub mod Ways
 pub mod Marks
 pub mod Flags
 pub mod Patterns
 pub mod Codes
+pub mod Spacings
 pub mod Lines
-pub mod Rounding
+pub mod Parts
 pub mod SurveyFile
+-- OfCalls: what calls refuse, answer and leave, and the lister's text.
 pub mod Settings
 pub mod Refusals
 pub mod Calls
 pub mod Series
+pub mod Lister
+-- OfCalls: what is proved of them. Demand: demand 3. Steepest: of next and lines. Sheets: of settings sheets. Grounds: of the ring call. FirstVersion: of survey
+-- files of version 1. Then the example plots, files and sheets.
 pub mod Demand
 pub mod Steepest
 pub mod Sheets
 pub mod Grounds
 pub mod FirstVersion
-pub mod Lister
-pub mod Bench
+pub mod Examples
+pub mod Starred
+pub mod LevelGround
+pub mod SlopedGround
+pub mod ExampleFiles
+pub mod ExampleSheets

@@ -1,12 +1,13 @@
 -- docs/SPECIFICATION.md, "Lines, dales and hills". Stated once, over any order, rings and choice among lower neighbours: a thalweg (water line) is a
 -- line downward, a ridge (crest line) a line upward, which is a line in the reversed order; dales and hills likewise.
 use Prim.Native.Nat.{ℕ, zero, suc, _+_, _*_, _≤_}
+use mathlib.Core.Path.{_≡_}
 use mathlib.Core.Bool.{Bool, true, false, cond, not, _&&_, _||_}
-use mathlib.Core.List.{List, [], _∷_}
-use lib.Dec.{ltb, leb, eqb}
+use mathlib.Core.List.{List, [], _∷_, List·Memᴰ}
+use lib.Dec.{ltb, eqb}
 use lib.IntN.{_-ℤ_, natAbs}
-use lib.ListN.{getD}
-use Rattle.surface.specs.Lists.{listOf, filter, any}
+use lib.ListN.{length, getD}
+use Rattle.surface.specs.Lists.{listOf, filter, any, lastOr}
 use Rattle.surface.specs.Plot.{Plot, posts, row, column, height, virtualPit, below, directed}
 use Rattle.surface.specs.Edges.{lowest, ringOf, lowerRuns}
 use Rattle.surface.specs.declared.Spacings.{Spacings}
@@ -53,26 +54,14 @@ unfoldable pub fallsFrom : (ℕ → ℕ → Bool) → ℕ → List ℕ → Bool
 fallsFrom lower x [] = true
 fallsFrom lower x (y ∷ l) = lower y x && fallsFrom lower y l
 
--- A way from p to q along edges through members only. A set is in one piece when any two of its members are so joined.
-pub data Way (edge : ℕ → ℕ → Type 0) (member : ℕ → Type 0) : ℕ → ℕ → Type 0 where
-  here : {p : ℕ} → member p → Way edge member p p
-  step : {p q r : ℕ} → member p → edge p q → Way edge member q r → Way edge member p r
-
-abbrev pub OnePiece : (ℕ → ℕ → Type 0) → (ℕ → Type 0) → Type 0
-OnePiece edge member = (p q : ℕ) → member p → member q → Way edge member p q
-
--- a spacing, the centimetres between neighbours in one row or in one column, is from 1 to 1,000
-abbrev pub isSpacing : ℕ → Bool
-isSpacing n = leb 1 n && leb n 1000
-
-pub record Spaced (s : Spacings) : Type 0 where
-  pub eastSome : 1 ≤ s .east
-  pub eastMost : s .east ≤ 1000
-  pub southSome : 1 ≤ s .south
-  pub southMost : s .south ≤ 1000
-
-abbrev pub spacings : ℕ → ℕ → Spacings
-spacings alongRow alongColumn = record { east = alongRow; south = alongColumn }
+-- a line of a plot of n posts: each entry after the first is lower (in the order given) than the one before, the last is an end, and there is at most
+-- one entry more than there are posts
+pub record LineFrom (n : ℕ) (lower : ℕ → ℕ → Bool) (isEnd : ℕ → Type 0) (post : ℕ) (entries : List ℕ) : Type 0 where
+  pub rest : List ℕ
+  pub starts : entries ≡ post ∷ rest
+  pub falls : fallsFrom lower post rest ≡ true
+  pub ends : isEnd (lastOr post rest)
+  pub fits : length entries ≤ n + 1
 
 abbrev pub squared : ℕ → ℕ
 squared n = n * n
@@ -99,6 +88,18 @@ module _ (pl : Plot) (s : Spacings) where
   -- the choice that is made from p: the virtual pit where it is a member, else the first in that order
   unfoldable pub steepest : (ℕ → ℕ → Bool) → ℕ → List ℕ → ℕ
   steepest lower p members = cond (any (λ q. eqb q virtualPit) members) virtualPit (lowest (before lower p) members)
+
+  module _ (lower : ℕ → ℕ → Bool) (p : ℕ) (members : List ℕ) (q : ℕ) where
+    -- what that is: from p, q is the steepest of the members: none has a greater slope, and among those of equal slope none is lower
+    pub record Steepest : Type 0 where
+      pub member : List·Memᴰ q members
+      pub slope : (r : ℕ) → List·Memᴰ r members → steeper p r q ≡ false
+      pub level : (r : ℕ) → List·Memᴰ r members → steeper p q r ≡ false → lower r q ≡ false
+
+    -- the virtual pit where it is a member, else the steepest
+    pub record Chosen : Type 0 where
+      pub pit : List·Memᴰ virtualPit members → q ≡ virtualPit
+      pub other : (List·Memᴰ virtualPit members → ⊥) → Steepest
 
   -- the two descents of a plot; upward the order is reversed, so that of equal slopes the higher is chosen
   abbrev pub toward : Bool → Descent

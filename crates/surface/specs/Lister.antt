@@ -7,8 +7,9 @@ use lib.IntN.{pos}
 use lib.ListN.{length, getD, take, replicate}
 use Rattle.surface.specs.Lists.{listOf, lastOr}
 use Rattle.surface.specs.Plot.{Plot, posts, virtualPit}
-use Rattle.surface.specs.Marks.{markAt, marksOf, peaks, pits, saddles}
-use Rattle.surface.specs.Lines.{Descent, runsOf, line, down, up, spacings}
+use Rattle.surface.specs.Marks.{isSaddle, markAt, marksOf, peaks, pits, saddles}
+use Rattle.surface.specs.Lines.{Descent, runsOf, line, down, up}
+use Rattle.surface.specs.Spacings.{spacings}
 use Rattle.surface.specs.Calls.{sheetSays, plotBy, readAnswer, readHeights}
 use Rattle.surface.specs.declared.Spacings.{Spacings}
 
@@ -52,7 +53,7 @@ module _ (pl : Plot) where
   saddleLines s p = linesText 84 (down pl s) p ++ linesText 82 (up pl s) p
 
   unfoldable pub postLines : Spacings → ℕ → List ℕ
-  postLines s p = cond (ltb (markAt pl p) 3) [] (saddleLines s p)
+  postLines s p = cond (isSaddle (markAt pl p)) (saddleLines s p) []
 
   -- the saddles in post order
   unfoldable pub plotText : Spacings → List ℕ

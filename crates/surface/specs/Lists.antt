@@ -1,6 +1,6 @@
 -- Words for lists that the other files share. Places in a list count from 0.
 use Prim.Native.Nat.{ℕ, zero, suc, _+_}
-use mathlib.Core.Bool.{Bool, true, false, cond, _&&_, _||_}
+use mathlib.Core.Bool.{Bool, true, false, cond, not, _&&_, _||_}
 use mathlib.Core.List.{List, [], _∷_, _++_}
 use lib.ListN.{set}
 
@@ -61,3 +61,7 @@ firstNot s (x ∷ l) = cond (s x) (suc (firstNot s l)) 0
 unfoldable pub stores : {A : Type 0} → (ℕ → A) → ℕ → ℕ → List A → List A
 stores f from zero l = l
 stores f from (suc n) l = set (stores f from n l) (from + n) (f (from + n))
+
+-- a flag, or its contrary
+abbrev pub flipped : Bool → Bool → Bool
+flipped h x = cond h (not x) x

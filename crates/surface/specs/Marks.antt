@@ -1,11 +1,13 @@
 -- docs/SPECIFICATION.md, "Marks and counts". Over any order and any rings; those of a plot are `markAt` and `marksOf`.
-use Prim.Native.Nat.{ℕ, suc, _+_, _-_}
-use mathlib.Core.Bool.{Bool, cond, not, _&&_}
+use Prim.Native.Nat.{ℕ, suc, _+_, _-_, _<_}
+use mathlib.Core.Path.{_≡_}
+use mathlib.Core.Logic.{_⊎_}
+use mathlib.Core.Bool.{Bool, false, cond, not, _&&_}
 use mathlib.Core.List.{List, map}
 use lib.Dec.{leb, eqb}
 use lib.ListN.{length, getD}
 use Rattle.surface.specs.Lists.{listOf, any, count, total}
-use Rattle.surface.specs.Plot.{Plot, posts, row, column, below}
+use Rattle.surface.specs.Plot.{Plot, posts, row, column, virtualPit, below}
 use Rattle.surface.specs.Edges.{ringOf, lowerRuns}
 
 -- 1 peak: no neighbour is above. 2 pit: no neighbour is below. 0 ordinary: one lower run and some neighbour above. 3, 4, 5: a saddle of 2, 3, 4 lower runs
@@ -14,6 +16,10 @@ markFor someAbove someBelow k = cond (not someAbove) 1 (cond (not someBelow) 2 (
 
 unfoldable pub mark : (ℕ → ℕ → Bool) → (ℕ → List ℕ) → ℕ → ℕ
 mark lower ring p = markFor (any (λ q. lower p q) (ring p)) (any (λ q. lower q p) (ring p)) (length (lowerRuns lower ring p))
+
+-- a mark from 3 on is a saddle's
+abbrev pub isSaddle : ℕ → Bool
+isSaddle m = leb 3 m
 
 -- the multiplicity of a saddle by its mark, 0 for every other mark
 abbrev pub multiplicity : ℕ → ℕ
@@ -35,6 +41,13 @@ markAt pl = mark (below pl) (ringOf pl)
 
 unfoldable pub marksOf : Plot → List ℕ
 marksOf pl = listOf (markAt pl) (posts pl)
+
+-- pits and peaks, told by their rings; the virtual pit is a pit
+abbrev pub IsPit : Plot → ℕ → Type 0
+IsPit pl p = ((p < posts pl) × (any (λ q. below pl q p) (ringOf pl p) ≡ false)) ⊎ (p ≡ virtualPit)
+
+abbrev pub IsPeak : Plot → ℕ → Type 0
+IsPeak pl p = (p < posts pl) × (any (λ q. below pl p q) (ringOf pl p) ≡ false)
 
 -- two posts are the same or touch by side or corner
 abbrev pub near : ℕ → ℕ → Bool

@@ -7,9 +7,10 @@ use lib.IntN.{ℤ}
 use lib.ListN.{length, getD}
 use Rattle.surface.specs.Lists.{firstNot}
 use Rattle.surface.specs.Plot.{Plot, posts, isSide, isHeight}
-use Rattle.surface.specs.Marks.{markAt}
+use Rattle.surface.specs.Marks.{isSaddle, markAt}
 use Rattle.surface.specs.Codes.{ringLength}
-use Rattle.surface.specs.Lines.{Descent, runsOf, line, isSpacing}
+use Rattle.surface.specs.Lines.{Descent, runsOf, line}
+use Rattle.surface.specs.Spacings.{isSpacing}
 use Rattle.surface.specs.SurveyFile.{versionIn, headerFor, statedCount, countFor, fileSize, spacingsIn, isTenths, tenthsOf}
 use Rattle.surface.specs.Settings.{isBadSheet, hasBadEntry, nameLength}
 use Rattle.surface.specs.declared.Answer.{Answer}
@@ -71,7 +72,7 @@ row6 new = rowOf 6 (not (isHeight new))
 
 -- 7: a line of a post that is no saddle
 abbrev pub row7 : Plot → ℕ → Row
-row7 pl post = rowOf 7 (ltb (markAt pl post) 3)
+row7 pl post = rowOf 7 (not (isSaddle (markAt pl post)))
 
 -- 8: run number not below the post's runs of that sort: the lower ones downward, the upper ones upward
 abbrev pub row8 : Descent → ℕ → ℕ → Row

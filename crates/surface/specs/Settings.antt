@@ -12,7 +12,7 @@ use lib.Dec.{leb, ltb, eqb}
 use lib.ListN.{length, getD, take, drop}
 use Rattle.surface.specs.Lists.{listOf, all, total}
 use Rattle.surface.specs.Plot.{defaultRule}
-use Rattle.surface.specs.SurveyFile.{wordAt}
+use Rattle.surface.specs.Words.{wordAt}
 
 -- an entry: its kind, its length, and its value, as far as there are bytes for it
 pub record Entry : Type 0 where

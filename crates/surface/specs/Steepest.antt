@@ -7,34 +7,22 @@ use lib.ListN.{getD}
 use Rattle.surface.specs.Lists.{filter, any}
 use Rattle.surface.specs.Plot.{Plot, virtualPit, below, reversed}
 use Rattle.surface.specs.Edges.{isBorder, ringOf, lowerRuns}
-use Rattle.surface.specs.Lines.{steeper}
+use Rattle.surface.specs.Lines.{Chosen}
 use Rattle.surface.specs.Calls.{nextDownAnswer, nextUpAnswer, thalwegAnswer, thalwegList, ridgeAnswer, ridgeList}
 use Rattle.surface.specs.declared.Next.{Next}
 use Rattle.surface.specs.declared.Entries.{Entries}
 use Rattle.surface.specs.declared.Spacings.{Spacings}
 
 module _ (pl : Plot) (s : Spacings) where
-  module _ (lower : ℕ → ℕ → Bool) (p : ℕ) (members : List ℕ) (q : ℕ) where
-    -- from p, q is the steepest of the members: none has a greater slope, and among those of equal slope none is lower
-    pub record Steepest : Type 0 where
-      pub member : List·Memᴰ q members
-      pub slope : (r : ℕ) → List·Memᴰ r members → steeper pl s p r q ≡ false
-      pub level : (r : ℕ) → List·Memᴰ r members → steeper pl s p q r ≡ false → lower r q ≡ false
-
-    -- the virtual pit where it is a member, else the steepest
-    pub record Chosen : Type 0 where
-      pub pit : List·Memᴰ virtualPit members → q ≡ virtualPit
-      pub other : (List·Memᴰ virtualPit members → ⊥) → Steepest
-
   -- downward; upward it is the same in the reversed order
   pub record Goes (lower : ℕ → ℕ → Bool) (nextOf : ℕ → Next) (answer : ℕ → ℕ → List ℕ → Entries) (list : ℕ → ℕ → List ℕ → List ℕ) : Type 0 where
     -- from a post with a lower neighbour, next goes to one that is chosen of these; from any other it stays
     pub next : (p : ℕ) → nextOf p .code ≡ 0 → any (λ q. lower q p) (ringOf pl p) ≡ true
-        → Chosen lower p (filter (λ q. lower q p) (ringOf pl p)) (nextOf p .post)
+        → Chosen pl s lower p (filter (λ q. lower q p) (ringOf pl p)) (nextOf p .post)
     pub stays : (p : ℕ) → nextOf p .code ≡ 0 → any (λ q. lower q p) (ringOf pl p) ≡ false → nextOf p .post ≡ p
     -- a line goes from its saddle to one that is chosen of its run
     pub line : (p run : ℕ) (lent : List ℕ) → answer p run lent .code ≡ 0
-        → Chosen lower p (getD (lowerRuns lower (ringOf pl) p) run []) (getD (list p run lent) 1 0)
+        → Chosen pl s lower p (getD (lowerRuns lower (ringOf pl) p) run []) (getD (list p run lent) 1 0)
 
   pub record Steeply : Type 0 where
     pub downward : Goes (below pl) (nextDownAnswer pl s) (thalwegAnswer pl s) (thalwegList pl s)

@@ -5,41 +5,19 @@
 --            2        unsigned             2 to 120         spacings in centimetres       tenths of a millimetre, signed
 --
 -- All numbers are big-endian. Version 1 has no spacings, so that the heights begin at byte 7; it is read as if both were 100.
-use Prim.Native.Nat.{ℕ, _+_, _-_, _*_, _/_, _%_}
+use Prim.Native.Nat.{ℕ, _+_, _*_}
 use mathlib.Core.Bool.{Bool, cond, not, _&&_}
 use mathlib.Core.List.{List, [], _∷_, _++_, map}
-use lib.Dec.{ltb, eqb}
+use lib.Dec.{eqb}
 use lib.IntN.{ℤ, pos, negsuc, _*ℤ_}
 use lib.Signed.{ltZ}
 use lib.ListN.{getD}
 use Rattle.surface.specs.Lists.{listOf}
 use Rattle.surface.specs.Plot.{Plot}
-use Rattle.surface.specs.Lines.{spacings}
+use Rattle.surface.specs.Spacings.{spacings}
 use Rattle.surface.specs.Rounding.{roundTiesToEven}
+use Rattle.surface.specs.Words.{wordAt, signed, unsigned, bytesOf, halfAt, halfBytes}
 use Rattle.surface.specs.declared.Spacings.{Spacings}
-
--- the big-endian 32-bit number at byte i
-unfoldable pub wordAt : List ℕ → ℕ → ℕ
-wordAt file i = ((getD file i 0 * 256 + getD file (i + 1) 0) * 256 + getD file (i + 2) 0) * 256 + getD file (i + 3) 0
-
--- a 32-bit number read as signed, and a signed number as its 32 bits
-unfoldable pub signed : ℕ → ℤ
-signed n = cond (ltb n 2147483648) (pos n) (negsuc (4294967295 - n))
-
-unfoldable pub unsigned : ℤ → ℕ
-unsigned (pos n) = n
-unsigned (negsuc n) = 4294967295 - n
-
--- the four bytes of a 32-bit number
-unfoldable pub bytesOf : ℕ → List ℕ
-bytesOf n = n / 16777216 % 256 ∷ n / 65536 % 256 ∷ n / 256 % 256 ∷ n % 256 ∷ []
-
--- the big-endian 16-bit number at byte i, and the two bytes of one
-abbrev pub halfAt : List ℕ → ℕ → ℕ
-halfAt file i = getD file i 0 * 256 + getD file (i + 1) 0
-
-unfoldable pub halfBytes : ℕ → List ℕ
-halfBytes n = n / 256 % 256 ∷ n % 256 ∷ []
 
 abbrev pub versionIn : List ℕ → ℕ
 versionIn file = getD file 0 0

@@ -9,7 +9,7 @@ use surface::Sheet;
 use surface::Size;
 ghost use mathlib.Core.Path.{_≡_};
 ghost use Rattle.surface.specs.Plot.{plot};
-ghost use Rattle.surface.specs.Lines.{spacings};
+ghost use Rattle.surface.specs.Spacings.{spacings};
 ghost use Rattle.surface.specs.Calls.{plotBy, settingsAnswer, settingsName, surveyAnswer, surveyMarks, reshootAnswer, reshootHeights, reshootMarks, ringAnswer, ringList, nextDownAnswer, nextUpAnswer, thalwegAnswer, thalwegList, ridgeAnswer, ridgeList, partsAnswer, partsDales, partsHills, readAnswer, readHeights, writeAnswer, writeFile};
 
 #[no_mangle]

@@ -8,8 +8,9 @@ use lib.IntN.{ℤ, pos, _*ℤ_}
 use lib.ListN.{length, getD, take, set}
 use lib.Seq.{sets, sets-eq, drop-length, length-take-le}
 use Rattle.surface.specs.Plot.{Plot}
-use Rattle.surface.specs.SurveyFile.{unsigned, bytesOf, halfBytes, headerFor, filedHeights, fileOf}
-use Rattle.surface.proofs.OfCalls.SurveyFile.{length-filedHeights, filedHeights-take}
+use Rattle.surface.specs.Words.{unsigned, bytesOf, halfBytes}
+use Rattle.surface.specs.SurveyFile.{headerFor, filedHeights, fileOf}
+use Rattle.surface.proofs.OfPlots.SurveyFile.{length-filedHeights, filedHeights-take}
 use Rattle.surface.proofs.OfCalls.Accepted.{ForWrite}
 use Rattle.surface.specs.declared.Spacings.{Spacings}
 use Rattle.survey_file.specs.Layout.{written, header, heightAt}

@@ -4,7 +4,8 @@ use mathlib.Core.Bool.{cond, _&&_}
 use mathlib.Core.List.{List, [], _∷_, _++_}
 use lib.ListN.{getD}
 use Rattle.surface.specs.Plot.{isSide}
-use Rattle.surface.specs.SurveyFile.{bytesOf, halfBytes, versionIn, headerFor, countFor, spacingsIn}
+use Rattle.surface.specs.Words.{bytesOf, halfBytes}
+use Rattle.surface.specs.SurveyFile.{versionIn, headerFor, countFor, spacingsIn}
 use Rattle.surface.specs.Refusals.{Row, row1, row10, row11, row15}
 use Rattle.surface.specs.declared.Spacings.{Spacings}
 

@@ -19,7 +19,7 @@ use writing::write_verdict;
 ghost use mathlib.Core.Path.{_≡_};
 ghost use Prim.Native.Nat.{_≤_};
 ghost use Rattle.surface.specs.Plot.{plot, maxPosts};
-ghost use Rattle.surface.specs.Lines.{spacings};
+ghost use Rattle.surface.specs.Spacings.{spacings};
 ghost use Rattle.surface.specs.Calls.{readAnswer, readHeights, writeAnswer, writeFile};
 ghost use Rattle.survey_file.specs.Layout.{plotPosts};
 

@@ -10,7 +10,8 @@ ghost use lib.IntN.{pos, _*ℤ_};
 ghost use lib.ListN.{length};
 ghost use Rattle.surface.specs.Lists.{firstNot};
 ghost use Rattle.surface.specs.Plot.{isHeight};
-ghost use Rattle.surface.specs.SurveyFile.{versionIn, wordAt, signed, unsigned, isTenths, tenthsOf, rounded};
+ghost use Rattle.surface.specs.SurveyFile.{versionIn, isTenths, tenthsOf, rounded};
+ghost use Rattle.surface.specs.Words.{wordAt, signed, unsigned};
 ghost use Rattle.survey_file.specs.Layout.{leastSize, heightAt};
 ghost use Rattle.survey_file.specs.Rounding.{stepFrom};
 

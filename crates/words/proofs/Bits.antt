@@ -10,7 +10,7 @@ use lib.Signed.{ltZ, nonNeg}
 use mir.Syntax.{w32}
 use mir.Val.{toZ, sel, SFits}
 use mir.ValLaws.{toZ-pos, toZ-fits}
-use Rattle.surface.specs.SurveyFile.{signed, unsigned}
+use Rattle.surface.specs.Words.{signed, unsigned}
 
 -- `signed` is the machine's reading of 32 bits
 pub signed-is : (n : ℕ) → toZ w32 n ≡ signed n

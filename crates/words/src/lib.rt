@@ -5,7 +5,7 @@ ghost use mathlib.Core.List.{reverse};
 ghost use Prim.Native.Nat.{_+_, _<_, _≤_};
 ghost use lib.ListN.{length};
 ghost use lib.Seq.{sets};
-ghost use Rattle.surface.specs.SurveyFile.{wordAt, bytesOf, halfAt, halfBytes, signed, unsigned};
+ghost use Rattle.surface.specs.Words.{wordAt, bytesOf, halfAt, halfBytes, signed, unsigned};
 
 pub fn wide(x: u8) -> u32
     ensures { λ r. ⌜ (r ≡ x) × (r < 256) ⌝ }

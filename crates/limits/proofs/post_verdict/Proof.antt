@@ -5,7 +5,7 @@ use native.Mathlib.Omega.{arith}
 use borrow.Author.Needs.{needs}
 use lib.ListN.{length}
 use Rattle.surface.specs.Plot.{Plot, posts, Sides}
-use Rattle.surface.specs.Lines.{Spaced}
+use Rattle.surface.specs.Spacings.{Spaced}
 use Rattle.surface.specs.Refusals.{verdict, leadingSpaced, nextVerdict}
 use Rattle.surface.specs.Calls.{plotSaid}
 use Rattle.surface.proofs.OfCalls.Verdicts.{code, leads-refused, leads-passed}

@@ -4,7 +4,7 @@ use mathlib.Core.Path.{_≡_, sym, _∙_, ap}
 use mathlib.Core.Logic.{inl}
 use borrow.Author.Tests.{ne-eqb}
 use Rattle.surface.specs.Plot.{Plot, PostOf}
-use Rattle.surface.specs.Lines.{Spaced}
+use Rattle.surface.specs.Spacings.{Spaced}
 use Rattle.surface.specs.Refusals.{nextVerdict}
 use Rattle.surface.specs.Calls.{plotSaid}
 use Rattle.surface.proofs.AnyOrder.Grid.{vertex-low}

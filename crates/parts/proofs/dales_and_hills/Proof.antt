@@ -1,7 +1,7 @@
 -- A refusal is handed on, and the ends of the paths that the next posts make are the names asked for.
 use mathlib.Core.Path.{_≡_, sym, _∙_, ap}
 use Rattle.surface.specs.Plot.{Plot}
-use Rattle.surface.specs.Lines.{spacings}
+use Rattle.surface.specs.Spacings.{spacings}
 use Rattle.surface.specs.Refusals.{partsVerdict}
 use Rattle.surface.specs.Calls.{plotSaid, partsAnswer}
 use Rattle.surface.specs.declared.Answer.{Answer}

@@ -14,7 +14,7 @@ use Rattle.surface.specs.Plot.{virtualPit, Sides}
 use Rattle.surface.specs.Edges.{top, bottom, left, right, isCell, ring}
 use Rattle.surface.specs.Flags.{markBy}
 use Rattle.surface.specs.Marks.{mark, multiplicity, peaks, pits, saddles}
-use Rattle.surface.proofs.AnyOrder.Order.{StrictTotal}
+use Rattle.surface.proofs.General.Order.{StrictTotal}
 use Rattle.surface.proofs.General.Sum.{sum, sum-ext, sum-add, sum-shift, sum-const, sum-eight}
 use Rattle.surface.proofs.AnyOrder.Grid.{top-true, top-false, bottom-true, bottom-false, south-top, south-left, south-right, east-top, east-bottom, row-fits, left-zero, right-end, east-left-right, left-south, top-bottom, left-right}
 use Rattle.surface.proofs.AnyOrder.Census.{census}

@@ -11,9 +11,10 @@ use lib.Dec.{eqb}
 use borrow.Author.Tests.{eq-eqb, ne-eqb}
 use Rattle.surface.specs.Plot.{directed}
 use Rattle.surface.specs.Edges.{throughLowest, lowest, lowestOr}
-use Rattle.surface.specs.Flags.{flipped}
+use Rattle.surface.specs.Lists.{flipped}
 use Rattle.surface.proofs.General.Bools.{either}
-use Rattle.surface.proofs.AnyOrder.Order.{StrictTotal, directed-strict, directed-flipped}
+use Rattle.surface.proofs.General.Order.{StrictTotal}
+use Rattle.surface.proofs.AnyOrder.Order.{directed-strict, directed-flipped}
 use Rattle.surface.proofs.AnyOrder.Lowest.{lowest-member, lowest-least}
 
 -- the diagonal of a cell falls, by its flags: of the north-western post to the east, south and south-east, of the north-eastern one to the south, and

@@ -7,7 +7,7 @@ use mathlib.Core.List.{List, [], _∷_, List·Memᴰ, List·Memᴰ·head, List·
 use native.Mathlib.Decide.{ℕ-discrete}
 use Rattle.surface.specs.Edges.{lowest, lowestOr}
 use Rattle.surface.proofs.General.Bools.{either}
-use Rattle.surface.proofs.AnyOrder.Order.{StrictTotal}
+use Rattle.surface.proofs.General.Order.{StrictTotal}
 
 module _ (lower : ℕ → ℕ → Bool) where
   lowestOr-member : (x : ℕ) (l : List ℕ) → List·Memᴰ (lowestOr lower x l) (x ∷ l)

@@ -13,13 +13,15 @@ use Rattle.surface.specs.Lists.{listOf, any, all, count, one}
 use Rattle.surface.specs.Plot.{virtualPit, Vertex, reversed, Sides}
 use Rattle.surface.specs.Edges.{Edge, members, places, ring, isBorder}
 use Rattle.surface.specs.Marks.{mark, peaks, pits, saddles}
-use Rattle.surface.specs.Lines.{Descent, isEnd, next, end, OnePiece, Way, here, step}
-use Rattle.surface.specs.Demand.{namesIn, InDale, InHill, Parts}
+use Rattle.surface.specs.Lines.{Descent, isEnd, next, end}
+use Rattle.surface.specs.Ways.{OnePiece, Way, here, step}
+use Rattle.surface.specs.Parts.{namesIn, InDale, InHill, Parts}
 use Rattle.surface.proofs.General.Bools.{same-test, either}
 use Rattle.surface.proofs.General.Sum.{sum-ext}
 use Rattle.surface.proofs.General.ListOf.{getD-listOf, member-listOf, listOf-member, any-member, count-listOf}
 use Rattle.surface.proofs.AnyOrder.Grid.{not-pit, row-fits, top-true}
-use Rattle.surface.proofs.AnyOrder.Order.{StrictTotal, reversed-strict}
+use Rattle.surface.proofs.General.Order.{StrictTotal}
+use Rattle.surface.proofs.AnyOrder.Order.{reversed-strict}
 use Rattle.surface.proofs.AnyOrder.RingEdges.{edge-sym, ring-edge, ring-member, ring-other, ring-pit}
 use Rattle.surface.proofs.AnyOrder.Runs.{mark-one, mark-two}
 use Rattle.surface.proofs.AnyOrder.Signs.{any-above}

@@ -1,19 +1,14 @@
--- Strict total orders, and the rank of a vertex, how many are below it, which falls with the order.
+-- A strict total order reversed is one, and the rank of a vertex, how many are below it, which falls with the order.
 use Prim.Native.Nat.{ℕ, _+_, _≤_, _<_}
 use native.Mathlib.Omega.{arith}
 use native.Mathlib.Nat.{mul-one}
 use mathlib.Core.Path.{_≡_, refl, sym, subst}
 use mathlib.Core.Logic.{_⊎_, ⊎-elim}
 use mathlib.Core.Bool.{Bool, true, false, not}
-use Rattle.surface.specs.Lists.{one}
+use Rattle.surface.specs.Lists.{one, flipped}
 use Rattle.surface.specs.Plot.{virtualPit, Vertex, reversed, directed}
-use Rattle.surface.specs.Flags.{flipped}
+use Rattle.surface.proofs.General.Order.{StrictTotal}
 use Rattle.surface.proofs.General.Sum.{sum, sum-const, sum-le, sum-lt}
-
-pub record StrictTotal (lower : ℕ → ℕ → Bool) : Type 0 where
-  pub irrefl : (p : ℕ) → lower p p ≡ false
-  pub other : (p q : ℕ) → (p ≡ q → ⊥) → lower q p ≡ not (lower p q)
-  pub trans : (p q r : ℕ) → lower p q ≡ true → lower q r ≡ true → lower p r ≡ true
 
 pub reversed-strict : {lower : ℕ → ℕ → Bool} → StrictTotal lower → StrictTotal (reversed lower)
 reversed-strict o =

@@ -7,12 +7,13 @@ use native.Mathlib.Omega.{arith}
 use mathlib.Core.Path.{_≡_, refl, sym, _∙_, ap}
 use mathlib.Core.Bool.{Bool, true, false, cond, not, _&&_, _||_, true≢false}
 use Rattle.surface.specs.Plot.{virtualPit, directed, Sides}
-use Rattle.surface.specs.Lists.{one}
+use Rattle.surface.specs.Lists.{one, flipped}
 use Rattle.surface.specs.Edges.{throughLowest, places, top, bottom, left, right}
-use Rattle.surface.specs.Flags.{flipped, signBy, pairBy, lowerBy, upperBy}
+use Rattle.surface.specs.Flags.{signBy, pairBy, lowerBy, upperBy}
 use Rattle.surface.specs.Patterns.{carried, patternOf}
 use Rattle.surface.proofs.General.Bools.{either}
-use Rattle.surface.proofs.AnyOrder.Order.{StrictTotal, directed-strict, directed-flipped}
+use Rattle.surface.proofs.General.Order.{StrictTotal}
+use Rattle.surface.proofs.AnyOrder.Order.{directed-strict, directed-flipped}
 use Rattle.surface.proofs.AnyOrder.Signs.{Signs, signs, signsFrom, signs-from}
 use Rattle.surface.proofs.AnyOrder.Grid.{top-false, not-left, north-left, top-bottom, left-right}
 use Rattle.surface.proofs.AnyOrder.CellFlags.{Corner, corners, falls-is}

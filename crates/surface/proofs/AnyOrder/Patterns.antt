@@ -12,7 +12,7 @@ use Rattle.surface.specs.Edges.{Place, place, members, places, ring, top
 use Rattle.surface.specs.Marks.{mark}
 use Rattle.surface.specs.Flags.{markBy}
 use Rattle.surface.specs.Patterns.{changes, changesFrom, carried, patternOf, signsOf, changesIn, markIn}
-use Rattle.surface.proofs.AnyOrder.Order.{StrictTotal}
+use Rattle.surface.proofs.General.Order.{StrictTotal}
 use Rattle.surface.proofs.AnyOrder.Runs.{lastSide, lastSide-lastOr, changes-starts, markFor-circle}
 use Rattle.surface.proofs.AnyOrder.Signs.{any-above, lastSide-members}
 

@@ -5,7 +5,8 @@ use mathlib.Core.Path.{_≡_, sym, _∙_, subst}
 use mathlib.Core.Bool.{true, false}
 use mathlib.Core.List.{List·Memᴰ}
 use Rattle.surface.specs.Plot.{Vertex}
-use Rattle.surface.specs.Lines.{Descent, isEnd, next, end, Way, here, step, OnePiece}
+use Rattle.surface.specs.Lines.{Descent, isEnd, next, end}
+use Rattle.surface.specs.Ways.{Way, here, step, OnePiece}
 use Rattle.surface.proofs.General.Bools.{either}
 use Rattle.surface.proofs.AnyOrder.Order.{rank}
 use Rattle.surface.proofs.AnyOrder.Walks.{Falling, next-step, end-stop, end-next}

@@ -8,7 +8,7 @@ use mathlib.Core.Logic.{_↔_}
 use mathlib.Core.List.{List, [], _∷_, map}
 use lib.Dec.{eqb}
 use lib.ListN.{length, length-append}
-use borrow.Author.Tests.{eqb-true, eqb-false, ne-eqb, le-ltb}
+use borrow.Author.Tests.{eqb-true, eqb-false, ne-eqb, le-leb}
 use Rattle.surface.specs.Lists.{keep, any, all, lastOr, one}
 use Rattle.surface.specs.Edges.{runs, runsFrom}
 use Rattle.surface.specs.Marks.{markFor}
@@ -38,7 +38,7 @@ runsFor-both : (k : ℕ) → (k ≡ 0 → ⊥) → k ≡ runsFor (markFor true t
 unfolding runsFor markFor
 runsFor-both k h =
     either (eqb k 1) (λ e. rw e (eqb-true k 1 e))
-    (λ e. let n = eqb-false k 1 e in rw (e, le-ltb (k + 1) 3 (omega arith)) (omega arith))
+    (λ e. let n = eqb-false k 1 e in rw (e, le-leb 3 (k + 1) (omega arith)) (omega arith))
 
 length-keep : {A : Type 0} (b : Bool) (x : A) → length (keep b x) ≡ one b
 length-keep true x = refl

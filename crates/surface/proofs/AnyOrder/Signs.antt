@@ -14,7 +14,7 @@ use Rattle.surface.specs.Marks.{mark, markFor}
 use Rattle.surface.specs.Flags.{markBy}
 use Rattle.surface.specs.Patterns.{carried}
 use Rattle.surface.proofs.General.Bools.{either}
-use Rattle.surface.proofs.AnyOrder.Order.{StrictTotal}
+use Rattle.surface.proofs.General.Order.{StrictTotal}
 use Rattle.surface.proofs.AnyOrder.Runs.{starts, lastSide, markFor-circle, lastSide-lastOr}
 
 pub record Signs : Type 0 where

@@ -13,7 +13,8 @@ use Rattle.surface.specs.Lists.{filter, any, keep, lastOr}
 use Rattle.surface.specs.Plot.{virtualPit, Vertex}
 use Rattle.surface.specs.Lines.{Descent, isEnd, next, walk, end, runsOf, lineStart, line, fallsFrom}
 use Rattle.surface.proofs.AnyOrder.RunMembers.{runs-run}
-use Rattle.surface.proofs.AnyOrder.Order.{StrictTotal, rank, rank-falls, rank-le}
+use Rattle.surface.proofs.General.Order.{StrictTotal}
+use Rattle.surface.proofs.AnyOrder.Order.{rank, rank-falls, rank-le}
 use Rattle.surface.proofs.General.Bools.{or-right, either}
 
 -- what passes a test

@@ -5,8 +5,7 @@ use mathlib.Core.Path.{_≡_, refl, sym}
 use mathlib.Core.Bool.{Bool, true, false, not, _&&_, _||_, true≢false, Bool·beq}
 use lib.Dec.{T}
 use mir.Val.{boolByte}
-use Rattle.surface.specs.Lists.{one}
-use Rattle.surface.specs.Flags.{flipped}
+use Rattle.surface.specs.Lists.{one, flipped}
 
 pub and-left : (a b : Bool) → a && b ≡ true → a ≡ true
 and-left true b h = refl

@@ -10,9 +10,10 @@ use lib.IntN.{ℤ}
 use lib.ListN.{length, getD}
 use Rattle.surface.specs.Lists.{firstNot}
 use Rattle.surface.specs.Plot.{Plot, ruled, posts, isHeight, Sides, Valid, PostOf}
-use Rattle.surface.specs.Marks.{markAt}
+use Rattle.surface.specs.Marks.{isSaddle, markAt}
 use Rattle.surface.specs.Codes.{ringLength}
-use Rattle.surface.specs.Lines.{Descent, runsOf, line, isSpacing, Spaced}
+use Rattle.surface.specs.Lines.{Descent, runsOf, line}
+use Rattle.surface.specs.Spacings.{isSpacing, Spaced}
 use Rattle.surface.specs.SurveyFile.{versionIn, headerFor, statedCount, countFor, fileSize, spacingsIn, isTenths, tenthsOf}
 use Rattle.surface.specs.Refusals.{accepted, verdict, row1, row2, row4, row15, leading, leadingSpaced, surveyVerdict, reshootVerdict, ringVerdict, nextVerdict, lineVerdict, partsVerdict, readVerdict, writeVerdict}
 use Rattle.surface.specs.declared.Spacings.{Spacings}
@@ -20,7 +21,7 @@ use Rattle.surface.proofs.General.Bools.{and-left, and-right, or-left, 
 use Rattle.surface.proofs.General.FirstNot.{firstNot-le, ranged-all, all-firstNot}
 use Rattle.surface.proofs.AnyOrder.Grid.{test-sides, sides-test}
 use Rattle.surface.proofs.OfCalls.Verdicts.{passed, row-passed, none-left}
-use Rattle.surface.proofs.OfCalls.SurveyFile.{length-tenthsOf}
+use Rattle.surface.proofs.OfPlots.SurveyFile.{length-tenthsOf}
 
 -- tests that a row makes, as equations
 equal : (m n : ℕ) → not (eqb m n) ≡ false → m ≡ n
@@ -132,7 +133,7 @@ module _ (pl : Plot) where
   -- a line of a saddle, one of its runs, and a list that has room
   pub record ForLine (d : Descent) (post run : ℕ) (list : List ℕ) : Type 0 where
     pub postIn : post < posts pl
-    pub saddle : 3 ≤ markAt pl post
+    pub saddle : isSaddle (markAt pl post) ≡ true
     pub runIn : run < length (runsOf d post)
     pub room : length (line d (posts pl) post run) ≤ length list
 
@@ -142,7 +143,7 @@ module _ (pl : Plot) where
       let row = passed _ tt e in
       record {
         postIn = ltb-true post (posts pl) (not-false _ (row 5));
-        saddle = ltb-false (markAt pl post) 3 (row 7);
+        saddle = not-false _ (row 7);
         runIn = ltb-true run _ (not-false _ (row 8));
         room = ltb-false (length list) _ (row 9);
       }
@@ -183,7 +184,7 @@ module _ (pl : Plot) where
         ∙ row-passed _ _ row2-passes
         ∙ row-passed _ _ row4-passes
         ∙ row-passed _ _ (ap not (lt-ltb post (posts pl) (f .postIn)))
-        ∙ row-passed _ _ (le-ltb (markAt pl post) 3 (f .saddle))
+        ∙ row-passed _ _ (ap not (f .saddle))
         ∙ row-passed _ _ (ap not (lt-ltb run _ (f .runIn)))
         ∙ row-passed _ _ (le-ltb (length list) _ (f .room))
         ∙ none-left

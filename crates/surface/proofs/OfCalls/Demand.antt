@@ -8,11 +8,12 @@ use lib.ListN.{length, getD, take, drop}
 use lib.Seq.{take-append-seam}
 use borrow.Author.Tests.{eq-eqb}
 use Rattle.surface.specs.Plot.{Plot, posts, Vertex, Valid}
-use Rattle.surface.specs.Marks.{markAt, marksOf, peaks, pits, saddles}
-use Rattle.surface.specs.Lines.{Descent, runsOf, line, Spaced, down, up, end, dalesOf, hillsOf}
+use Rattle.surface.specs.Marks.{markAt, marksOf, peaks, pits, saddles, IsPit, IsPeak}
+use Rattle.surface.specs.Lines.{Descent, runsOf, line, down, up, end, dalesOf, hillsOf, LineFrom}
+use Rattle.surface.specs.Spacings.{Spaced}
 use Rattle.surface.specs.Refusals.{lineVerdict}
 use Rattle.surface.specs.Calls.{surveyAnswer, surveyMarks, lineAnswer, lineList, thalwegAnswer, thalwegList, ridgeAnswer, ridgeList, partsAnswer, partsDales, partsHills}
-use Rattle.surface.specs.Demand.{IsPit, IsPeak, LineFrom, Lines, Parted, Surveyed, surveyed, Demand3}
+use Rattle.surface.specs.Demand.{Lines, Parted, Surveyed, surveyed, Demand3}
 use Rattle.surface.specs.declared.Answer.{Answer}
 use Rattle.surface.specs.declared.Counts.{Counts}
 use Rattle.surface.specs.declared.Spacings.{Spacings}

@@ -4,11 +4,11 @@ use Rattle.surface.specs.Lists.{listOf, any, all, takeWhile, lastOr, cou
 use Rattle.surface.specs.Plot.{virtualPit, drivenBefore, below}
 use Rattle.surface.specs.Edges.{lowest, lowestOr, throughLowest, members, places, ring, ringOf, runs, runsFrom}
 use Rattle.surface.specs.Marks.{markFor, mark, markAt, marksOf, peaks, pits, saddles}
-use Rattle.surface.specs.SurveyFile.{wordAt, bytesOf}
+use Rattle.surface.specs.Words.{wordAt, bytesOf}
 use Rattle.surface.specs.Settings.{entriesIn, entriesOf, extent, isBadSheet, areEntries, hasBadEntry, valueOf, ruleIn, nameIn, nameBytes}
 use Rattle.surface.specs.Refusals.{verdict, sheetVerdict, settingsVerdict, surveyVerdict}
 use Rattle.surface.specs.Calls.{sheetSays, settingsAnswer, settingsName, surveyAnswer, surveyMarks}
-use Rattle.surface.specs.Bench.{ExampleSheets}
+use Rattle.surface.specs.ExampleSheets.{ExampleSheets}
 
 pub example-sheets : ExampleSheets
 unfolding listOf any all takeWhile lastOr count total firstNot virtualPit drivenBefore below lowest lowestOr throughLowest members places ring runs runsFrom markFor mark markAt marksOf ringOf peaks pits saddles wordAt bytesOf entriesIn entriesOf extent isBadSheet areEntries hasBadEntry valueOf ruleIn nameIn nameBytes verdict sheetVerdict settingsVerdict surveyVerdict sheetSays settingsAnswer settingsName surveyAnswer surveyMarks

@@ -9,11 +9,12 @@ use Rattle.surface.specs.Edges.{lowest, lowestOr, throughLowest, members
 use Rattle.surface.specs.Marks.{markFor, mark, markAt, marksOf}
 use Rattle.surface.specs.Codes.{memberCode, codesOf, ringBytes}
 use Rattle.surface.specs.Lines.{isEnd, next, squaredLength, squaredDrop, steeper, steepest}
-use Rattle.surface.specs.SurveyFile.{wordAt, bytesOf}
+use Rattle.surface.specs.Words.{wordAt, bytesOf}
 use Rattle.surface.specs.Settings.{entriesIn, entriesOf, extent, isBadSheet, areEntries, hasBadEntry, valueOf, ruleIn}
 use Rattle.surface.specs.Refusals.{verdict, sheetVerdict, surveyVerdict, ringVerdict, nextVerdict}
 use Rattle.surface.specs.Calls.{sheetSays, surveyMarks, ringList, nextDownAnswer, nextUpAnswer}
-use Rattle.surface.specs.Bench.{metre, marks, wide, square, oddChannel, evenChannel, bay, goes, LevelGround}
+use Rattle.surface.specs.Examples.{metre, marks, goes}
+use Rattle.surface.specs.LevelGround.{wide, square, oddChannel, evenChannel, bay, LevelGround}
 
 -- by both rules
 pub each : (A : Bool → Type 0) → A false → A true → (h : Bool) → A h

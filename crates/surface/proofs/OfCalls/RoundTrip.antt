@@ -11,8 +11,9 @@ use borrow.Author.Tests.{le-ltb}
 use Rattle.surface.specs.Lists.{all, firstNot}
 use Rattle.surface.specs.Plot.{Plot, plot, posts, isHeight, Valid}
 use Rattle.surface.specs.Rounding.{Nearest}
-use Rattle.surface.specs.Lines.{Spaced, spacings}
-use Rattle.surface.specs.SurveyFile.{wordAt, versionIn, headerFor, statedCount, countFor, fileSize, spacingsIn, signed, bytesOf, halfBytes, isTenths, tenthsOf, rounded, heightsIn, filedHeights, fileOf}
+use Rattle.surface.specs.Spacings.{Spaced, spacings}
+use Rattle.surface.specs.Words.{wordAt, signed, bytesOf, halfBytes}
+use Rattle.surface.specs.SurveyFile.{versionIn, headerFor, statedCount, countFor, fileSize, spacingsIn, isTenths, tenthsOf, rounded, heightsIn, filedHeights, fileOf}
 use Rattle.surface.specs.Refusals.{readVerdict}
 use Rattle.surface.specs.declared.Spacings.{Spacings}
 use Rattle.surface.specs.Calls.{readAnswer, readHeights, writeAnswer, writeFile}
@@ -20,7 +21,8 @@ use Rattle.surface.proofs.OfCalls.FileCalls.{read-code, read-served, re
 use Rattle.surface.proofs.General.Rounding.{nearest-is}
 use Rattle.surface.proofs.General.ListOf.{getD-mapped}
 use Rattle.surface.proofs.General.FirstNot.{firstNot-map, ranged-all, all-firstNot, all-at}
-use Rattle.surface.proofs.OfCalls.SurveyFile.{length-tenthsOf, getD-tenthsOf, wordAt-skip, wordAt-bytesOf, half-joined, wordAt-filed, length-filedHeights, signed-unsigned, mag-tenfold, isTenths-tenfold, rounded-tenfold, isHeight-rounded}
+use Rattle.surface.proofs.OfPlots.SurveyFile.{length-tenthsOf, getD-tenthsOf, wordAt-filed, length-filedHeights, mag-tenfold, isTenths-tenfold, rounded-tenfold, isHeight-rounded}
+use Rattle.surface.proofs.General.Words.{wordAt-skip, wordAt-bytesOf, half-joined, signed-unsigned}
 use Rattle.surface.proofs.OfCalls.Accepted.{postsIn, ForRead, ForWrite, read-valid, valid-read, write-valid}
 
 map-rounded : (zs : List ℤ) → map rounded (map (λ z. z *ℤ pos 10) zs) ≡ zs

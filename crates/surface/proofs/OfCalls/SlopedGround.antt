@@ -4,10 +4,12 @@ use Rattle.surface.specs.Lists.{listOf, filter, any, all, takeWhile, las
 use Rattle.surface.specs.Plot.{virtualPit, drivenBefore, below}
 use Rattle.surface.specs.Edges.{lowest, lowestOr, throughLowest, members, places, ring, ringOf, runs, runsFrom}
 use Rattle.surface.specs.Marks.{markFor, mark, markAt}
-use Rattle.surface.specs.Lines.{isEnd, next, walk, line, spacings, squaredLength, squaredDrop, steeper, steepest}
+use Rattle.surface.specs.Lines.{isEnd, next, walk, line, squaredLength, squaredDrop, steeper, steepest}
+use Rattle.surface.specs.Spacings.{spacings}
 use Rattle.surface.specs.Refusals.{verdict, nextVerdict, lineVerdict}
 use Rattle.surface.specs.Calls.{nextDownAnswer, nextUpAnswer, thalwegList}
-use Rattle.surface.specs.Bench.{metre, fork, fall, rise, goes, SlopedGround}
+use Rattle.surface.specs.Examples.{metre, goes}
+use Rattle.surface.specs.SlopedGround.{fork, fall, rise, SlopedGround}
 use Rattle.surface.proofs.OfCalls.LevelGround.{each}
 
 pub sloped-ground : SlopedGround

@@ -8,14 +8,15 @@ use borrow.Author.Tests.{eq-eqb, ne-eqb}
 use Rattle.surface.specs.Lists.{filter, any}
 use Rattle.surface.specs.Plot.{Plot, posts, virtualPit, below, reversed}
 use Rattle.surface.specs.Edges.{isBorder, ringOf, lowerRuns}
-use Rattle.surface.specs.Lines.{Descent, isEnd, next, walk, line, lineStart, runsOf, steepest, down, up}
+use Rattle.surface.specs.Lines.{Descent, isEnd, next, walk, line, lineStart, runsOf, steepest, down, up, Chosen}
 use Rattle.surface.specs.Refusals.{nextVerdict, lineVerdict}
 use Rattle.surface.specs.Calls.{nextAnswer, nextDownAnswer, nextUpAnswer, lineAnswer, lineList, thalwegAnswer, thalwegList, ridgeAnswer, ridgeList}
-use Rattle.surface.specs.Steepest.{Chosen, Goes, Steeply, SteepestEdges}
+use Rattle.surface.specs.Steepest.{Goes, Steeply, SteepestEdges}
 use Rattle.surface.specs.declared.Next.{Next}
 use Rattle.surface.specs.declared.Spacings.{Spacings}
 use Rattle.surface.proofs.AnyOrder.Grid.{not-pit}
-use Rattle.surface.proofs.AnyOrder.Order.{StrictTotal, reversed-strict}
+use Rattle.surface.proofs.General.Order.{StrictTotal}
+use Rattle.surface.proofs.AnyOrder.Order.{reversed-strict}
 use Rattle.surface.proofs.AnyOrder.RingEdges.{ring-pit}
 use Rattle.surface.proofs.AnyOrder.RunMembers.{runs-run}
 use Rattle.surface.proofs.AnyOrder.Walks.{filter-some}

@@ -10,8 +10,9 @@ use Rattle.surface.specs.Plot.{row, column, directed, isOdd, drivenBefor
 use Rattle.surface.specs.Edges.{top, left, right}
 use Rattle.surface.proofs.General.Bools.{either, same-test, not-not}
 use Rattle.surface.proofs.AnyOrder.Grid.{post-is, row-ge, row-south, row-east, row-west, row-north, not-left, south-right, west-right, north-left}
-use Rattle.surface.proofs.AnyOrder.Order.{StrictTotal, directed-strict}
-use Rattle.surface.proofs.AnyOrder.Lex.{ltb-weak, Level, Ties, lex-strict}
+use Rattle.surface.proofs.General.Order.{StrictTotal}
+use Rattle.surface.proofs.AnyOrder.Order.{directed-strict}
+use Rattle.surface.proofs.General.Lex.{ltb-weak, Level, Ties, lex-strict}
 
 ltb-irrefl : (a : ℕ) → ltb a a ≡ false
 ltb-irrefl a = le-ltb a a (omega arith)

@@ -9,8 +9,8 @@ use lib.Signed.{ltZ}
 use borrow.Author.Tests.{ltb-true, ltb-false, lt-ltb, le-ltb, eqb-true, eq-eqb, ne-eqb}
 use Rattle.surface.specs.Plot.{Plot, height, virtualPit, drivenBefore, below, tied}
 use Rattle.surface.proofs.General.Bools.{either}
-use Rattle.surface.proofs.AnyOrder.Order.{StrictTotal}
-use Rattle.surface.proofs.AnyOrder.Lex.{Weak, strict-ties, lex, lex-strict}
+use Rattle.surface.proofs.General.Order.{StrictTotal}
+use Rattle.surface.proofs.General.Lex.{Weak, strict-ties, lex, lex-strict}
 use Rattle.surface.proofs.OfPlots.Driven.{driven-strict}
 
 -- whole numbers

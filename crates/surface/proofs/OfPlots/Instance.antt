@@ -5,9 +5,11 @@ use mathlib.Core.Path.{_≡_}
 use mathlib.Core.Bool.{Bool, true, false}
 use Rattle.surface.specs.Plot.{Plot, posts, virtualPit, Vertex, below, reversed, Sides}
 use Rattle.surface.specs.Edges.{isBorder, fallsIn, ringOf}
-use Rattle.surface.specs.Marks.{markAt, marksOf, peaks, pits, saddles}
-use Rattle.surface.specs.Lines.{next, spacings, steepest, down, up, toward, daleAt, hillAt, dalesOf, hillsOf}
-use Rattle.surface.specs.Demand.{EdgeOf, IsPit, IsPeak, InDale, InHill, Parts}
+use Rattle.surface.specs.Marks.{markAt, marksOf, peaks, pits, saddles, IsPit, IsPeak}
+use Rattle.surface.specs.Lines.{next, steepest, down, up, toward, daleAt, hillAt, dalesOf, hillsOf}
+use Rattle.surface.specs.Spacings.{spacings}
+use Rattle.surface.specs.Ways.{EdgeOf}
+use Rattle.surface.specs.Parts.{InDale, InHill, Parts}
 use Rattle.surface.specs.declared.Spacings.{Spacings}
 use Rattle.surface.proofs.AnyOrder.Walks.{Falling}
 use Rattle.surface.proofs.AnyOrder.Network.{Network, Ends, falling-down, falling-up, down-ends, up-ends, border-next, balanced, dale-parts, hill-parts}

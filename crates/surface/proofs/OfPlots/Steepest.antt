@@ -10,12 +10,12 @@ use borrow.Author.Tests.{ltb-true, ltb-false, lt-ltb, le-ltb}
 use Rattle.surface.specs.Lists.{any}
 use Rattle.surface.specs.Plot.{Plot, row, column, virtualPit, below, directed}
 use Rattle.surface.specs.Edges.{lowest, ringOf}
-use Rattle.surface.specs.Lines.{Spaced, spacings, squared, toward, squaredLength, squaredDrop, steeper, before, steepest}
-use Rattle.surface.specs.Steepest.{Steepest, Chosen}
+use Rattle.surface.specs.Spacings.{Spaced, spacings}
+use Rattle.surface.specs.Lines.{squared, toward, squaredLength, squaredDrop, steeper, before, steepest, Steepest, Chosen}
 use Rattle.surface.specs.declared.Spacings.{Spacings}
 use Rattle.surface.proofs.General.Bools.{either, or-left, or-right}
-use Rattle.surface.proofs.AnyOrder.Order.{StrictTotal}
-use Rattle.surface.proofs.AnyOrder.Slopes.{slopes-strict}
+use Rattle.surface.proofs.General.Order.{StrictTotal}
+use Rattle.surface.proofs.General.Slopes.{slopes-strict}
 use Rattle.surface.proofs.AnyOrder.Lowest.{lowest-member, lowest-least}
 use Rattle.surface.proofs.General.ListOf.{any-member}
 

@@ -3,7 +3,7 @@ use mathlib.Core.Path.{_≡_, sym, _∙_}
 use native.Mathlib.Omega.{arith}
 use borrow.Author.Needs.{needs}
 use Rattle.surface.specs.Plot.{plot}
-use Rattle.surface.specs.Lines.{spacings}
+use Rattle.surface.specs.Spacings.{spacings}
 use Rattle.surface.specs.Refusals.{writeVerdict}
 use Rattle.surface.specs.Calls.{writeAnswer}
 use Rattle.surface.proofs.OfCalls.Accepted.{ForWrite, write-valid}

@@ -6,7 +6,7 @@ use lib.IntN.{negsuc, _-ℤ_}
 use mir.Syntax.{w32}
 use mir.Val.{toZ, SFits}
 use mir.Facts.{toZ-ofZ}
-use Rattle.surface.specs.SurveyFile.{signed}
+use Rattle.surface.specs.Words.{signed}
 use Rattle.words.proofs.Bits.{signed-is, signed-high, signed-fits}
 use Rattle.words.proofs.as_signed.Statement.{statement}
 use Rattle.words.proofs.as_signed.Tie as tie

@@ -8,7 +8,7 @@ use lib.Signed.{nonNeg}
 use mir.Syntax.{w32}
 use mir.Val.{toZ, ofZ}
 use mir.Facts.{toZ-ofZ, toZ-pos, fits-natAbs}
-use Rattle.surface.specs.SurveyFile.{unsigned}
+use Rattle.surface.specs.Words.{unsigned}
 use Rattle.words.proofs.Bits.{negative, natural}
 use Rattle.words.proofs.as_unsigned.Statement.{statement}
 use Rattle.words.proofs.as_unsigned.Tie as tie

@@ -3,7 +3,7 @@ use native.Mathlib.Omega.{arith}
 use native.Mathlib.Numerals.{towards-suc}
 use borrow.Author.Needs.{needs}
 use lib.ListN.{length-set}
-use Rattle.surface.specs.SurveyFile.{halfBytes}
+use Rattle.surface.specs.Words.{halfBytes}
 use Rattle.words.proofs.put_half.Statement.{statement}
 use Rattle.words.proofs.put_half.Tie as tie
 

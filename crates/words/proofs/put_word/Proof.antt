@@ -3,7 +3,7 @@ use native.Mathlib.Omega.{arith}
 use native.Mathlib.Numerals.{towards-suc}
 use borrow.Author.Needs.{needs}
 use lib.ListN.{length-set}
-use Rattle.surface.specs.SurveyFile.{bytesOf}
+use Rattle.surface.specs.Words.{bytesOf}
 use Rattle.words.proofs.put_word.Statement.{statement}
 use Rattle.words.proofs.put_word.Tie as tie
 

@@ -1,7 +1,7 @@
 -- `words::turned` meets its contract: a byte is below 256, so that no sum wraps.
 use native.Mathlib.Omega.{arith}
 use borrow.Author.Needs.{needs}
-use Rattle.surface.specs.SurveyFile.{wordAt, bytesOf}
+use Rattle.surface.specs.Words.{wordAt, bytesOf}
 use Rattle.words.proofs.turned.Statement.{statement}
 use Rattle.words.proofs.turned.Tie as tie
 

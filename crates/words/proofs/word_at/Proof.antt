@@ -4,7 +4,7 @@ use native.Mathlib.Omega.{arith}
 use mathlib.Core.Path.{_≡_, _∙_}
 use mathlib.Core.List.{reverse}
 use borrow.Author.Needs.{needs}
-use Rattle.surface.specs.SurveyFile.{wordAt, bytesOf}
+use Rattle.surface.specs.Words.{wordAt, bytesOf}
 use Rattle.words.proofs.word_at.Statement.{statement}
 use Rattle.words.proofs.word_at.Tie as tie
 

@@ -7,7 +7,8 @@ use borrow.Author.Tests.{ltb-true, ltb-false, not-true, not-false}
 use lib.ListN.{length}
 use Rattle.surface.specs.Plot.{Plot, plotOf, posts, PostOf}
 use Rattle.surface.specs.Marks.{markAt}
-use Rattle.surface.specs.Lines.{Descent, Spaced, runsOf, lineStart, toward}
+use Rattle.surface.specs.Lines.{Descent, runsOf, lineStart, toward}
+use Rattle.surface.specs.Spacings.{Spaced}
 use Rattle.surface.proofs.AnyOrder.Walks.{Falling}
 use Rattle.surface.proofs.OfPlots.Instance.{toward-falling}
 use Rattle.surface.proofs.OfCalls.Accepted.{next-valid}

@@ -7,7 +7,8 @@ use mathlib.Core.Logic.{_⊎_, ⊎-elim}
 use mathlib.Core.Bool.{Bool, true}
 use mir.Facts.{toZ-ofZ}
 use borrow.Author.Needs.{needs}
-use Rattle.surface.specs.Lines.{squared, Spaced}
+use Rattle.surface.specs.Lines.{squared}
+use Rattle.surface.specs.Spacings.{Spaced}
 use Rattle.surface.specs.declared.Spacings.{Spacings}
 use Rattle.next.specs.Keys.{farther, dropIn}
 use Rattle.next.proofs.KeyHeights.{further-farther}

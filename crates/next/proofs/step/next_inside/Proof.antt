@@ -3,7 +3,8 @@ use native.Mathlib.Omega.{arith}
 use mathlib.Core.Path.{_≡_, refl, sym, ap, subst, _∙_}
 use mathlib.Core.Bool.{Bool, true, false}
 use Rattle.surface.specs.Plot.{Plot, plotOf}
-use Rattle.surface.specs.Lines.{Spaced, next, toward}
+use Rattle.surface.specs.Spacings.{Spaced}
+use Rattle.surface.specs.Lines.{next, toward}
 use Rattle.surface.specs.declared.Spacings.{Spacings}
 use Rattle.surface.proofs.OfPlots.Steepest.{unit-spaced, toward-even}
 use Rattle.next.specs.Keys.{reduced}

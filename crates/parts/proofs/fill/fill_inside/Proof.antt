@@ -5,7 +5,7 @@ use mathlib.Core.Path.{_≡_}
 use mathlib.Core.Bool.{true, false}
 use Rattle.surface.specs.Plot.{plotOf, row, isOdd, PostOf}
 use Rattle.surface.specs.Edges.{isBorder}
-use Rattle.surface.specs.Lines.{Spaced}
+use Rattle.surface.specs.Spacings.{Spaced}
 use Rattle.parts.specs.Filled.{ForParts, BothFilled}
 use Rattle.parts.proofs.Filled.{next-fits, filled-none, filled-more, filled-lists, dales-long, hills-long}
 use Rattle.parts.proofs.fill.fill_inside.Statement.{statement}

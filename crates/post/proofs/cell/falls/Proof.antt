@@ -4,7 +4,7 @@ use mathlib.Core.Path.{_≡_, refl, sym, ap, _∙_}
 use native.Mathlib.Omega.{arith}
 use mathlib.Core.Bool.{Bool, not, _&&_, _||_, Bool·beq}
 use Rattle.surface.specs.Plot.{plotOf, below}
-use Rattle.surface.specs.Flags.{flipped}
+use Rattle.surface.specs.Lists.{flipped}
 use Rattle.surface.proofs.General.Bools.{xor-flipped}
 use Rattle.surface.proofs.AnyOrder.CellFlags.{fallsBy, falls-by-flags}
 use Rattle.surface.proofs.OfPlots.Driven.{far-told, east-told, south-told}

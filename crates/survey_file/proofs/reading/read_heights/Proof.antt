@@ -8,9 +8,10 @@ use lib.IntN.{ℤ}
 use lib.ListN.{length}
 use mir.Syntax.{w32}
 use mir.Val.{toZ, ofZ}
-use Rattle.surface.specs.SurveyFile.{versionIn, wordAt, signed, rounded}
+use Rattle.surface.specs.SurveyFile.{versionIn, rounded}
+use Rattle.surface.specs.Words.{wordAt, signed}
 use Rattle.surface.proofs.General.ListOf.{Filled, filled-none, filled-more, filled-length, filled-all}
-use Rattle.surface.proofs.OfCalls.SurveyFile.{heightsIn-is}
+use Rattle.surface.proofs.OfPlots.SurveyFile.{heightsIn-is}
 use Rattle.survey_file.specs.Layout.{heightAt}
 use Rattle.survey_file.proofs.reading.read_heights.Statement.{statement}
 use Rattle.survey_file.proofs.reading.read_heights.Tie as tie

@@ -14,7 +14,7 @@ use Rattle.surface.specs.Lists.{firstNot}
 use Rattle.surface.specs.SurveyFile.{versionIn, statedCount, countFor, tenthsOf, isTenths}
 use Rattle.surface.specs.Refusals.{Row, verdict, row3, row4, row12, readVerdict}
 use Rattle.surface.proofs.General.Bools.{or-left, or-right}
-use Rattle.surface.proofs.OfCalls.SurveyFile.{length-tenthsOf}
+use Rattle.surface.proofs.OfPlots.SurveyFile.{length-tenthsOf}
 use Rattle.surface.proofs.OfCalls.Accepted.{rowsIn, columnsIn, postsIn, header-bounds}
 use Rattle.surface.proofs.OfCalls.Verdicts.{code, passed, row-holds, row-passed, none-left, leads-refused, leads-passed}
 use Rattle.survey_file.specs.Layout.{leastSize, headerRows}

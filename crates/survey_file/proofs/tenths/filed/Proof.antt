@@ -4,7 +4,7 @@ use lib.IntN.{pos, _*ℤ_}
 use mir.Syntax.{w32}
 use mir.Val.{SFits}
 use mir.Facts.{toZ-ofZ}
-use Rattle.surface.proofs.OfCalls.SurveyFile.{mag-tenfold}
+use Rattle.surface.proofs.OfPlots.SurveyFile.{mag-tenfold}
 use Rattle.survey_file.proofs.tenths.filed.Statement.{statement}
 use Rattle.survey_file.proofs.tenths.filed.Tie as tie
 

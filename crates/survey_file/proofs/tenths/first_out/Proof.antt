@@ -12,7 +12,7 @@ use mir.Val.{toZ, ofZ}
 use Rattle.surface.specs.Lists.{firstNot}
 use Rattle.surface.specs.SurveyFile.{versionIn, headerFor, isTenths, tenthsOf}
 use Rattle.surface.proofs.General.FirstNot.{firstNot-pass, firstNot-stop, firstNot-end}
-use Rattle.surface.proofs.OfCalls.SurveyFile.{length-tenthsOf, getD-tenthsOf}
+use Rattle.surface.proofs.OfPlots.SurveyFile.{length-tenthsOf, getD-tenthsOf}
 use Rattle.survey_file.proofs.tenths.first_out.Statement.{statement}
 use Rattle.survey_file.proofs.tenths.first_out.Tie as tie
 

@@ -3,7 +3,7 @@ use mathlib.Core.Path.{_≡_, _∙_, ap}
 use borrow.Author.Needs.{needs}
 use mir.Syntax.{w32}
 use mir.Val.{toZ, ofZ}
-use Rattle.surface.specs.SurveyFile.{signed}
+use Rattle.surface.specs.Words.{signed}
 use Rattle.survey_file.proofs.tenths.tenths_at.Statement.{statement}
 use Rattle.survey_file.proofs.tenths.tenths_at.Tie as tie
 

@@ -4,7 +4,7 @@ use mathlib.Core.Path.{_≡_, _∙_}
 use native.Mathlib.Omega.{arith}
 use borrow.Author.Needs.{needs}
 use lib.ListN.{length, length-set}
-use Rattle.surface.specs.SurveyFile.{bytesOf, halfBytes}
+use Rattle.surface.specs.Words.{bytesOf, halfBytes}
 use Rattle.survey_file.specs.Layout.{header}
 use Rattle.survey_file.proofs.writing.write_header.Statement.{statement}
 use Rattle.survey_file.proofs.writing.write_header.Tie as tie

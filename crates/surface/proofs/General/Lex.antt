@@ -7,7 +7,7 @@ use mathlib.Core.Bool.{Bool, true, false, not, _&&_, _||_, true≢false}
 use lib.Dec.{ltb}
 use borrow.Author.Tests.{ltb-true, ltb-false, lt-ltb, le-ltb}
 use Rattle.surface.proofs.General.Bools.{either}
-use Rattle.surface.proofs.AnyOrder.Order.{StrictTotal}
+use Rattle.surface.proofs.General.Order.{StrictTotal}
 
 -- a strict order of keys: what is less than another, but not less than b, has b between
 pub record Weak {A : Type 0} (less : A → A → Bool) : Type 0 where

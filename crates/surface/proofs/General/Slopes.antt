@@ -5,8 +5,8 @@ use native.Mathlib.Nat.{mul-right-comm, mul-lt-mul-of-pos-right, mul-le-mul-righ
 use mathlib.Core.Bool.{Bool}
 use lib.Dec.{ltb}
 use borrow.Author.Tests.{ltb-true, ltb-false, lt-ltb, le-ltb}
-use Rattle.surface.proofs.AnyOrder.Order.{StrictTotal}
-use Rattle.surface.proofs.AnyOrder.Lex.{Weak, strict-ties, lex, lex-strict}
+use Rattle.surface.proofs.General.Order.{StrictTotal}
+use Rattle.surface.proofs.General.Lex.{Weak, strict-ties, lex, lex-strict}
 
 module _ (drop length : ℕ → ℕ) where
   -- the slope to q is greater than the slope to r
