@@ -3,6 +3,8 @@ pub mod Verdicts
 pub mod Accepted
 pub mod MarkCalls
 pub mod RingCall
+pub mod LineCalls
+pub mod PartsCall
 pub mod FileCalls
 pub mod RoundTrip
 pub mod FirstVersion

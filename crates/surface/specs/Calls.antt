@@ -2,10 +2,11 @@
 -- refused. (A list lent to be read cannot be written.)
 -- An accepted call answers 0, 0 and its values. A refused one answers its number and place and 0 for each value, and leaves every list.
 use Prim.Native.Nat.{ℕ, _*_}
-use mathlib.Core.List.{List, _++_}
+use mathlib.Core.List.{List}
 use lib.Dec.{eqb}
 use lib.IntN.{ℤ}
-use lib.ListN.{length, getD, set, drop}
+use lib.ListN.{length, getD, set}
+use Rattle.surface.specs.Lists.{atFront}
 use Rattle.surface.specs.Plot.{Plot, posts, reshot}
 use Rattle.surface.specs.Marks.{markAt, marksOf, redrawn, peaks, pits, saddles}
 use Rattle.surface.specs.Codes.{ringBytes, runsBelow}
@@ -13,6 +14,7 @@ use Rattle.surface.specs.Lines.{Descent, next, line, down, up, dalesOf, 
 use Rattle.surface.specs.SurveyFile.{spacingsIn, heightsIn, fileOf}
 use Rattle.surface.specs.Settings.{ruleIn, nameIn, nameBytes}
 use Rattle.surface.specs.Refusals.{settled, sheetVerdict, settingsVerdict, surveyVerdict, reshootVerdict, ringVerdict, nextVerdict, lineVerdict, partsVerdict, readVerdict, writeVerdict}
+use Rattle.surface.specs.declared.Grid.{Grid}
 use Rattle.surface.specs.declared.Answer.{Answer}
 use Rattle.surface.specs.declared.Sheet.{Sheet}
 use Rattle.surface.specs.declared.Counts.{Counts}
@@ -41,6 +43,10 @@ plotSaid said rows columns heights =
       badEntry = eqb (said .code) 14;
       highest = eqb (said .rule) 2;
     }
+
+-- the grid that a call goes on with, which has the rule that its sheet says
+abbrev pub gridSaid : Sheet → ℕ → ℕ → Grid
+gridSaid said rows columns = record { rows = rows; columns = columns; highest = eqb (said .rule) 2 }
 
 abbrev pub plotBy : List ℕ → ℕ → ℕ → List ℤ → Plot
 plotBy sheet = plotSaid (sheetSays sheet)
@@ -110,9 +116,7 @@ module _ (pl : Plot) (s : Spacings) where
       record { code = v .code; place = v .place; count = settled v (length (line d (posts pl) post run)) 0 }
 
   abbrev pub lineList : Descent → ℕ → ℕ → List ℕ → List ℕ
-  lineList d post run list =
-      let entries = line d (posts pl) post run in
-      settled (lineVerdict pl s d post run list) (entries ++ drop (length entries) list) list
+  lineList d post run list = settled (lineVerdict pl s d post run list) (atFront (line d (posts pl) post run) list) list
 
   unfoldable pub thalwegAnswer : ℕ → ℕ → List ℕ → Entries
   thalwegAnswer = lineAnswer (down pl s)

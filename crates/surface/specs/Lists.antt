@@ -2,7 +2,7 @@
 use Prim.Native.Nat.{ℕ, zero, suc, _+_}
 use mathlib.Core.Bool.{Bool, true, false, cond, not, _&&_, _||_}
 use mathlib.Core.List.{List, [], _∷_, _++_}
-use lib.ListN.{set}
+use lib.ListN.{length, drop, set}
 
 -- f 0, f 1, .. f (n - 1)
 unfoldable pub listOf : {A : Type 0} → (ℕ → A) → ℕ → List A
@@ -56,6 +56,10 @@ total (x ∷ l) = x + total l
 unfoldable pub firstNot : {A : Type 0} → (A → Bool) → List A → ℕ
 firstNot s [] = 0
 firstNot s (x ∷ l) = cond (s x) (suc (firstNot s l)) 0
+
+-- a list with these elements at its front, where later ones keep their content
+abbrev pub atFront : {A : Type 0} → List A → List A → List A
+atFront new l = new ++ drop (length new) l
 
 -- a list after n stores, one after the other: f (from), f (from + 1), .. at those places
 unfoldable pub stores : {A : Type 0} → (ℕ → A) → ℕ → ℕ → List A → List A

@@ -42,6 +42,10 @@ settled v new old = cond (isAccepted v) new old
 abbrev pub rowOf : ℕ → Bool → Row
 rowOf code holds = record { holds = holds; code = code; place = 0 }
 
+-- a row that looks at a list post by post: it holds where some element does not pass, its place is the first such post, and its number is told by the post
+abbrev pub rowByPost : {A : Type 0} → (A → Bool) → (ℕ → ℕ) → List A → Row
+rowByPost passes codeAt l = let p = firstNot passes l in record { holds = ltb p (length l); code = codeAt p; place = p }
+
 -- the list has another length than n
 abbrev pub isNot : {A : Type 0} → List A → ℕ → Bool
 isNot l n = not (eqb (length l) n)
@@ -60,7 +64,7 @@ row3 l size = rowOf 3 (isNot l size)
 
 -- 4: a held or filed height outside its range; the place is the first such post
 abbrev pub row4 : (ℤ → Bool) → List ℤ → Row
-row4 isIn hs = record { holds = ltb (firstNot isIn hs) (length hs); code = 4; place = firstNot isIn hs }
+row4 isIn hs = rowByPost isIn (λ _. 4) hs
 
 -- 5: post number not below rows times columns
 abbrev pub row5 : Plot → ℕ → Row

@@ -12,10 +12,6 @@ use lib.Seq.{drop-cons}
 use Rattle.surface.specs.Lists.{all, firstNot}
 use Rattle.surface.proofs.General.Bools.{and-left, and-right}
 
-counted : (b : Bool) {m n : ℕ} → cond b (suc m) 0 ≡ suc n → (b ≡ true) × (m ≡ n)
-counted true e = (refl, omega arith)
-counted false e = absurd (omega arith)
-
 module _ {A : Type 0} (s : A → Bool) where
   module _ (l : List A) (i : ℕ) (d : A) (h : i < length l) where
     pub firstNot-pass : s (getD l i d) ≡ true → firstNot s (drop i l) ≡ suc (firstNot s (drop (i + 1) l))
@@ -39,13 +35,22 @@ module _ {A : Type 0} (s : A → Bool) where
       by true h = omega arith
       by false h = omega arith
 
--- where all pass one test, all pass another after f
-pub firstNot-map :
-    {A B : Type 0} (s : A → Bool) (u : B → Bool) (f : A → B) → ((x : A) → s x ≡ true → u (f x) ≡ true)
-    → (l : List A) → firstNot s l ≡ length l → firstNot u (map f l) ≡ length (map f l)
+-- the first that fails, where all before it pass
+pub firstNot-is : {A : Type 0} (s : A → Bool) (l : List A) (d : A) (p : ℕ) → p < length l → s (getD l p d) ≡ false
+    → ((q : ℕ) → q < p → s (getD l q d) ≡ true) → firstNot s l ≡ p
 unfolding firstNot
-firstNot-map s u f h [] e = refl
-firstNot-map s u f h (x ∷ l) e = rw (h x (counted (s x) e .0)) (ap suc (firstNot-map s u f h l (counted (s x) e .1)))
+firstNot-is s [] d p h e before = absurd (omega arith)
+firstNot-is s (x ∷ l) d zero h e before = rw e
+firstNot-is s (x ∷ l) d (suc p) h e before =
+    rw (before zero (omega arith)) (ap suc (firstNot-is s l d p (omega arith) e (λ q k. before (suc q) (omega arith))))
+
+-- where all pass one test, all pass another after f
+pub all-map :
+    {A B : Type 0} (s : A → Bool) (u : B → Bool) (f : A → B) → ((x : A) → s x ≡ true → u (f x) ≡ true)
+    → (l : List A) → all s l ≡ true → all u (map f l) ≡ true
+unfolding all
+all-map s u f h [] e = refl
+all-map s u f h (x ∷ l) e = rw (h x (and-left (s x) (all s l) e)) (all-map s u f h l (and-right (s x) (all s l) e))
 
 -- heights that are all in range
 pub ranged-all : {A : Type 0} (s : A → Bool) (l : List A) → ltb (firstNot s l) (length l) ≡ false → all s l ≡ true

@@ -21,7 +21,10 @@ use Rattle.surface.proofs.General.ListOf.{getD-listOf}
 use Rattle.surface.proofs.AnyOrder.Walks.{Falling, line-falls}
 use Rattle.surface.proofs.AnyOrder.Network.{end-name, up-post}
 use Rattle.surface.proofs.OfPlots.Instance.{network, down-falling, up-falling, pits-end, peaks-end, plot-balance, dales-part, hills-part}
-use Rattle.surface.proofs.OfCalls.Accepted.{SheetPasses, survey-valid, line-valid, valid-line, valid-survey, valid-parts}
+use Rattle.surface.proofs.OfCalls.Accepted.{SheetPasses}
+use Rattle.surface.proofs.OfCalls.MarkCalls.{survey-valid, valid-survey}
+use Rattle.surface.proofs.OfCalls.LineCalls.{line-valid, valid-line}
+use Rattle.surface.proofs.OfCalls.PartsCall.{valid-parts}
 use Rattle.surface.proofs.OfCalls.Series.{good-series}
 
 module _ (pl : Plot) (v : Valid pl) (sheet : SheetPasses pl) where
@@ -29,11 +32,11 @@ module _ (pl : Plot) (v : Valid pl) (sheet : SheetPasses pl) where
   counts : (lent : List ℕ) → length lent ≡ posts pl
       → surveyAnswer pl lent ≡ record { code = 0; place = 0; peaks = peaks (marksOf pl); pits = pits (marksOf pl); saddles = saddles (marksOf pl) }
   unfolding surveyAnswer
-  counts lent h = rw (valid-survey pl v sheet lent h)
+  counts lent h = rw (valid-survey pl lent (record { sheet = sheet; valid = v; marksSize = h }))
 
   fresh-marks : (lent : List ℕ) → length lent ≡ posts pl → surveyMarks pl lent ≡ marksOf pl
   unfolding surveyMarks
-  fresh-marks lent h = rw (valid-survey pl v sheet lent h)
+  fresh-marks lent h = rw (valid-survey pl lent (record { sheet = sheet; valid = v; marksSize = h }))
 
   module _ (s : Spacings) (spaced : Spaced s) where
     -- the lines of a descent: those of either direction, where the ends of walks from below a post are ends
@@ -66,7 +69,7 @@ module _ (pl : Plot) (v : Valid pl) (sheet : SheetPasses pl) where
                   let f = line-falls law post run h k in
                   let mark : getD marks post 0 ≡ markAt pl post = ap (λ (l : List ℕ). getD l post 0) e ∙ getD-listOf (markAt pl) (posts pl) post 0 h in
                   let room : length (line d (posts pl) post run) ≤ length list = rw (f .1) (omega (arith, f .2 .bound)) in
-                  ap (λ (a : Answer). a .code) (valid-line pl v sheet spaced d post run list (record { postIn = h; saddle = rw mark at m; runIn = k; room = room }));
+                  ap (λ (a : Answer). a .code) (valid-line pl s d post run list sheet v spaced (record { postIn = h; saddle = rw mark at m; runIn = k; room = room }));
             }
 
     thalwegs : (marks : List ℕ) → marks ≡ marksOf pl → Lines (posts pl) (down pl s .lower) (IsPit pl) marks (runsOf (down pl s)) (thalwegAnswer pl s) (thalwegList pl s)
@@ -83,7 +86,7 @@ module _ (pl : Plot) (v : Valid pl) (sheet : SheetPasses pl) where
     parts : (dales hills : List ℕ) → length dales ≡ posts pl → length hills ≡ posts pl
         → (partsAnswer pl s dales hills .code ≡ 0) × (partsDales pl s dales hills ≡ dalesOf pl s) × (partsHills pl s dales hills ≡ hillsOf pl s)
     unfolding partsAnswer partsDales partsHills
-    parts dales hills h k = rw (valid-parts pl v sheet spaced dales hills h k) (refl, refl, refl)
+    parts dales hills h k = rw (valid-parts pl s dales hills (record { sheet = sheet; valid = v; spaced = spaced; dalesSize = h; hillsSize = k })) (refl, refl, refl)
 
     parted : (dales hills : List ℕ) → length dales ≡ posts pl → length hills ≡ posts pl → Parted pl s dales hills
     parted dales hills h k =

@@ -1,8 +1,8 @@
 -- The outcome of a ring call, by whether it was accepted; and what an accepted one shows.
 use Prim.Native.Nat.{ℕ, _-_, _<_}
 use mathlib.Core.Path.{_≡_, refl, _∙_, ap}
-use mathlib.Core.List.{List, [], _∷_, _++_}
-use borrow.Author.Tests.{ne-eqb}
+use mathlib.Core.List.{List, _++_}
+use borrow.Author.Tests.{ltb-true, ne-eqb, not-false}
 use lib.Dec.{ltb}
 use lib.ListN.{length, getD, replicate}
 use Rattle.surface.specs.Plot.{Plot, posts, PostOf}
@@ -14,23 +14,39 @@ use Rattle.surface.specs.Calls.{surveyAnswer, surveyMarks, ringAnswer, r
 use Rattle.surface.specs.Grounds.{codesIn, Grounds, RingGrounds}
 use Rattle.surface.proofs.General.ListOf.{length-listOf, getD-listOf, listOf-padded, filter-padded}
 use Rattle.surface.proofs.OfPlots.Codes.{codes-say, codes-some, codes-number, codes-short, codes-runs, codes-mark, mark-runs}
-use Rattle.surface.proofs.OfCalls.Verdicts.{code, leads-passed, none-left}
-use Rattle.surface.proofs.OfCalls.Accepted.{SheetPasses, ring-valid, valid-survey}
-use Rattle.surface.proofs.OfCalls.MarkCalls.{survey-filled}
+use Rattle.surface.proofs.OfCalls.Verdicts.{code, passed, code-accepted, settled-refused}
+use Rattle.surface.proofs.OfCalls.Accepted.{SheetPasses, test-equal, rows-valid}
+use Rattle.surface.proofs.OfCalls.MarkCalls.{valid-survey, survey-filled}
 
 module _ (pl : Plot) (post : ℕ) (ring : List ℕ) where
+  -- a ring is shown of a post of a plot, in eight bytes
+  pub record ForRing : Type 0 where
+    pub sheet : SheetPasses pl
+    pub postOf : PostOf pl post
+    pub size : length ring ≡ ringLength
+
+  pub ring-valid : ringVerdict pl post ring .code ≡ 0 → ForRing
+  unfolding ringVerdict
+  ring-valid e =
+      let row = passed _ tt e in
+      record {
+        sheet = (row 13, row 14);
+        postOf = record { valid = rows-valid pl (row 1) (row 2) (row 4); post = ltb-true post (posts pl) (not-false _ (row 5)) };
+        size = test-equal _ _ (row 3);
+      }
+
   -- a refused call returns its number and place, and 0 for each other value, and leaves the bytes
   pub ring-refused : (ringVerdict pl post ring .code ≡ 0 → ⊥)
       → (ringAnswer pl post ring ≡ record { code = ringVerdict pl post ring .code; place = ringVerdict pl post ring .place; k = 0; mark = 0 })
       × (ringList pl post ring ≡ ring)
   unfolding ringAnswer ringList
-  ring-refused n = rw (ne-eqb (ringVerdict pl post ring .code) 0 n) (refl, refl)
+  ring-refused n = (rw (ne-eqb (ringVerdict pl post ring .code) 0 n), settled-refused (ringVerdict pl post ring) _ _ n)
 
   -- an accepted one returns 0, 0, k and the mark, and writes the codes
   pub ring-served : ringVerdict pl post ring .code ≡ 0
       → (ringAnswer pl post ring ≡ record { code = 0; place = 0; k = runsBelow pl post; mark = markAt pl post }) × (ringList pl post ring ≡ ringBytes pl post)
   unfolding ringVerdict ringAnswer ringList
-  ring-served e = rw (leads-passed (_ ∷ _ ∷ _ ∷ _ ∷ _ ∷ _ ∷ _ ∷ []) [] tt e, none-left) (refl, refl)
+  ring-served e = rw (code-accepted _ tt e) (refl, refl)
 
   answered : ringAnswer pl post ring .code ≡ 0 → ringVerdict pl post ring .code ≡ 0
   unfolding ringAnswer
@@ -55,7 +71,7 @@ module _ (pl : Plot) (p : ℕ) where
         → (surveyAnswer pl marks .code ≡ 0) × (p < length (surveyMarks pl marks)) × (getD (surveyMarks pl marks) p 0 ≡ markAt pl p)
     unfolding surveyAnswer marksOf
     survey-mark marks n =
-        let e = code (valid-survey pl (post .valid) s marks n) in
+        let e = code (valid-survey pl marks (record { sheet = s; valid = post .valid; marksSize = n })) in
         rw (survey-filled pl marks e) (e, rw (length-listOf) (post .post), getD-listOf (markAt pl) (posts pl) p 0 (post .post))
 
     grounds : Grounds pl p (runsBelow pl p) (markAt pl p) (ringBytes pl p)

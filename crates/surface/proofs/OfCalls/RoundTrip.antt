@@ -17,13 +17,12 @@ use Rattle.surface.specs.SurveyFile.{versionIn, headerFor, statedCount, 
 use Rattle.surface.specs.Refusals.{readVerdict}
 use Rattle.surface.specs.declared.Spacings.{Spacings}
 use Rattle.surface.specs.Calls.{readAnswer, readHeights, writeAnswer, writeFile}
-use Rattle.surface.proofs.OfCalls.FileCalls.{read-code, read-served, read-filled, write-filled}
+use Rattle.surface.proofs.OfCalls.FileCalls.{postsIn, ForRead, ForWrite, read-valid, valid-read, write-valid, read-code, read-served, read-filled, write-filled}
 use Rattle.surface.proofs.General.Rounding.{nearest-is}
 use Rattle.surface.proofs.General.ListOf.{getD-mapped}
-use Rattle.surface.proofs.General.FirstNot.{firstNot-map, ranged-all, all-firstNot, all-at}
+use Rattle.surface.proofs.General.FirstNot.{all-map, all-at}
 use Rattle.surface.proofs.OfPlots.SurveyFile.{length-tenthsOf, getD-tenthsOf, wordAt-filed, length-filedHeights, mag-tenfold, isTenths-tenfold, rounded-tenfold, isHeight-rounded}
 use Rattle.surface.proofs.General.Words.{wordAt-skip, wordAt-bytesOf, half-joined, signed-unsigned}
-use Rattle.surface.proofs.OfCalls.Accepted.{postsIn, ForRead, ForWrite, read-valid, valid-read, write-valid}
 
 map-rounded : (zs : List ℤ) → map rounded (map (λ z. z *ℤ pos 10) zs) ≡ zs
 map-rounded [] = refl
@@ -80,8 +79,8 @@ module _ (pl : Plot) (s : Spacings) (file : List ℕ) (w : ForWrite pl s file) w
       wordAt-skip (2 ∷ []) (bytesOf (countFor 2 pl.rows pl.columns) ++ rest) 1 0 refl
       ∙ wordAt-bytesOf (countFor 2 pl.rows pl.columns) rest (omega (arith, w .valid .sides))
 
-  in-range : firstNot isTenths (tenthsOf written (posts pl)) ≡ posts pl
-  in-range = rw (← w .valid .size, tenths) (firstNot-map isHeight isTenths (λ z. z *ℤ pos 10) isTenths-tenfold pl.heights (all-firstNot isHeight pl.heights (w .valid .inRange)) ∙ length-map pl.heights (λ z. z *ℤ pos 10))
+  in-range : all isTenths (tenthsOf written (posts pl)) ≡ true
+  in-range = rw (← w .valid .size, tenths) (all-map isHeight isTenths (λ z. z *ℤ pos 10) isTenths-tenfold pl.heights (w .valid .inRange))
 
   read-back : heightsIn written (posts pl) ≡ pl.heights
   unfolding heightsIn
@@ -139,12 +138,9 @@ length-heightsIn : (file : List ℕ) (n : ℕ) → length (heightsIn file n) ≡
 unfolding heightsIn
 length-heightsIn file n = length-map (tenthsOf file n) rounded ∙ length-tenthsOf file n
 
-heightsIn-high : (file : List ℕ) (n : ℕ) → firstNot isTenths (tenthsOf file n) ≡ n → all isHeight (heightsIn file n) ≡ true
+heightsIn-high : (file : List ℕ) (n : ℕ) → all isTenths (tenthsOf file n) ≡ true → all isHeight (heightsIn file n) ≡ true
 unfolding heightsIn
-heightsIn-high file n e =
-    let k = firstNot-map isTenths isHeight rounded isHeight-rounded (tenthsOf file n) (e ∙ sym (length-tenthsOf file n)) in
-    let l = map rounded (tenthsOf file n) in
-    ranged-all isHeight l (le-ltb (firstNot isHeight l) (length l) (omega (arith, k)))
+heightsIn-high file n e = all-map isTenths isHeight rounded isHeight-rounded (tenthsOf file n) e
 
 -- An accepted read leaves a plot that every other call takes.
 pub read-plot : (file : List ℕ) (out : List ℤ) → readAnswer file out .code ≡ 0

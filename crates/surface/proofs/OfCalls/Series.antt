@@ -16,7 +16,7 @@ use Rattle.surface.proofs.General.Bools.{either}
 use Rattle.surface.proofs.General.ListOf.{length-listOf}
 use Rattle.surface.proofs.General.FirstNot.{all-set}
 use Rattle.surface.proofs.OfPlots.Redrawn.{redrawn-fresh}
-use Rattle.surface.proofs.OfCalls.Accepted.{reshoot-valid}
+use Rattle.surface.proofs.OfCalls.MarkCalls.{reshoot-valid}
 
 -- the verdict on a re-shoot looks at the number of marks alone
 verdict-marks : (pl : Plot) (marks other : List ℕ) (post : ℕ) (new : ℤ) → length marks ≡ length other

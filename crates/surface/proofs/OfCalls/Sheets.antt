@@ -15,7 +15,8 @@ use Rattle.surface.specs.Series.{Reshoot, asked, Marked, afterCall, Kept
 use Rattle.surface.specs.Sheets.{Passes, Sheets, KeptBy, Demand3BySheets}
 use Rattle.surface.specs.declared.Sheet.{Sheet}
 use Rattle.surface.proofs.OfCalls.Verdicts.{leads-passed, none-left}
-use Rattle.surface.proofs.OfCalls.Accepted.{SheetPasses, survey-valid, reshoot-valid}
+use Rattle.surface.proofs.OfCalls.Accepted.{SheetPasses}
+use Rattle.surface.proofs.OfCalls.MarkCalls.{survey-valid, reshoot-valid}
 use Rattle.surface.proofs.OfCalls.Demand.{demand3}
 
 -- what a sheet says that passes, and its plot

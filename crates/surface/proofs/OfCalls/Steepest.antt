@@ -23,7 +23,7 @@ use Rattle.surface.proofs.AnyOrder.Walks.{filter-some}
 use Rattle.surface.proofs.OfPlots.HeightOrder.{below-strict}
 use Rattle.surface.proofs.OfPlots.Steepest.{chosen}
 use Rattle.surface.proofs.OfPlots.Instance.{border-drains}
-use Rattle.surface.proofs.OfCalls.Accepted.{next-valid, line-valid, line-spaced}
+use Rattle.surface.proofs.OfCalls.LineCalls.{next-valid, line-valid, line-spaced}
 
 -- a walk begins where it stands
 walk-begins : (d : Descent) (n q : ℕ) (l : List ℕ) → getD (walk d n q ++ l) 0 0 ≡ q
@@ -44,8 +44,8 @@ module _ (pl : Plot) (s : Spacings) where
     end-is : (p : ℕ) → nextAnswer pl s d p .code ≡ 0 → (b : Bool) → any (λ q. lower q p) (ringOf pl p) ≡ b
         → next d p ≡ cond b (steepest pl s lower p (filter (λ q. lower q p) (ringOf pl p))) p
     unfolding next isEnd
-    end-is p e true h = let v = next-valid pl s p e in rw (ne-eqb p virtualPit (not-pit (v .0 .valid .sides) (v .0 .post)), h)
-    end-is p e false h = let v = next-valid pl s p e in rw (ne-eqb p virtualPit (not-pit (v .0 .valid .sides) (v .0 .post)), h)
+    end-is p e true h = let v = next-valid pl s p e .postOf in rw (ne-eqb p virtualPit (not-pit (v .valid .sides) (v .post)), h)
+    end-is p e false h = let v = next-valid pl s p e .postOf in rw (ne-eqb p virtualPit (not-pit (v .valid .sides) (v .post)), h)
 
     goes : Goes pl s lower (nextAnswer pl s d) (lineAnswer pl s d) (lineList pl s d)
     unfolding line
@@ -54,7 +54,7 @@ module _ (pl : Plot) (s : Spacings) where
           next =
               λ p e h.
               let m = filter-some (λ q. lower q p) (ringOf pl p) h in
-              rw (answered d p e, end-is p e true h) (chosen pl s lower p (next-valid pl s p e .1) o (m .0) _ (m .1));
+              rw (answered d p e, end-is p e true h) (chosen pl s lower p (next-valid pl s p e .spaced) o (m .0) _ (m .1));
           stays = λ p e h. answered d p e ∙ end-is p e false h;
           line =
               λ p run lent e.
@@ -70,8 +70,8 @@ module _ (pl : Plot) (s : Spacings) where
       record {
         downward = goes (below pl) (below-strict pl);
         upward = goes (reversed (below pl)) (reversed-strict (below-strict pl));
-        border = λ p e b. let v = next-valid pl s p e .0 in answered (down pl s) p e ∙ border-drains pl (v .valid .sides) s p (v .post) b;
-        inner = λ p e b m. let v = next-valid pl s p e .0 in true≢false (sym (ring-pit (v .valid .sides) _ p (v .post) .0 m) ∙ b);
+        border = λ p e b. let v = next-valid pl s p e .postOf in answered (down pl s) p e ∙ border-drains pl (v .valid .sides) s p (v .post) b;
+        inner = λ p e b m. let v = next-valid pl s p e .postOf in true≢false (sym (ring-pit (v .valid .sides) _ p (v .post) .0 m) ∙ b);
       }
 
 pub steepest-edges : SteepestEdges

@@ -1,19 +1,29 @@
 -- The table of refusals: a number is returned exactly if its row is the first that holds, and a call is accepted exactly if no row holds.
 use Prim.Native.Nat.{ℕ, _<_}
 use native.Mathlib.Omega.{arith}
-use mathlib.Core.Path.{_≡_, refl, ap}
+use mathlib.Core.Path.{_≡_, refl, _∙_, ap}
 use mathlib.Core.Logic.{_↔_}
 use mathlib.Core.Bool.{Bool, true, false, cond, _&&_, _||_, true≢false}
 use mathlib.Core.List.{List, [], _∷_, _++_}
 use lib.Dec.{T, ltb, eqb, ltb→lt}
-use borrow.Author.Tests.{ne-eqb}
-use Rattle.surface.specs.Lists.{any}
-use Rattle.surface.specs.Refusals.{Row, rowOf, accepted, verdict, settled}
+use borrow.Author.Tests.{lt-ltb, le-ltb, eq-eqb, ne-eqb}
+use lib.ListN.{length, getD}
+use Rattle.surface.specs.Lists.{any, all}
+use Rattle.surface.specs.Refusals.{Row, rowOf, rowByPost, accepted, verdict, settled}
 use Rattle.surface.specs.declared.Answer.{Answer}
+use Rattle.surface.proofs.General.FirstNot.{firstNot-is, ranged-all, all-firstNot}
 
 -- equal answers have one number
 pub code : {a b : Answer} → a ≡ b → a .code ≡ b .code
 code e = ap (λ (x : Answer). x .code) e
+
+-- what stands after a refused call is what stood before, and after an accepted one what is new
+module _ {A : Type 0} (v : Answer) (new old : A) where
+  pub settled-refused : (v .code ≡ 0 → ⊥) → settled v new old ≡ old
+  settled-refused n = rw (ne-eqb (v .code) 0 n)
+
+  pub settled-accepted : v .code ≡ 0 → settled v new old ≡ new
+  settled-accepted e = rw (eq-eqb (v .code) 0 e)
 
 -- r is the first row of the table that holds
 pub data First (r : Row) : List Row → Type 0 where
@@ -81,6 +91,23 @@ accepted-clear (r ∷ rs) n =
     by true h f = (λ e. absurd (omega arith), λ e. absurd (true≢false e))
     by false h f = f
 
+-- no row holds, the first nor the others
+infixr 60 _⨟_
+
+pub data Clear : List Row → Type 0 where
+  done : Clear []
+  _⨟_ : {r : Row} {rs : List Row} → r .holds ≡ false → Clear rs → Clear (r ∷ rs)
+
+pub clear-accepted : {rs : List Row} → Clear rs → verdict rs ≡ accepted
+clear-accepted done = none-left
+clear-accepted (_⨟_ {r = r} {rs = rs} h k) = row-passed r rs h ∙ clear-accepted k
+
+pub code-accepted : (rs : List Row) → T (numbered rs) → verdict rs .code ≡ 0 → verdict rs ≡ accepted
+code-accepted [] n e = none-left
+code-accepted (r ∷ rs) n e =
+    let a = accepted-passed r rs n e in
+    row-passed r rs (a .0) ∙ code-accepted rs (and-parts (ltb 0 (r .code)) (numbered rs) n .1) (a .1)
+
 -- the row of a number (one that does not hold, where there is none)
 abbrev pub rowAt : ℕ → List Row → Row
 rowAt code [] = rowOf code false
@@ -119,3 +146,14 @@ module _ (led rest : List Row) (n : T (numbered led)) where
 
   pub leads-passed : verdict led .code ≡ 0 → verdict (led ++ rest) ≡ verdict rest
   leads-passed h = rw (leads led rest n, h)
+
+-- A row by post: it answers the first post that does not pass, and is clear if and only if there is none.
+module _ {A : Type 0} (passes : A → Bool) (codeAt : ℕ → ℕ) (l : List A) where
+  pub first-by-post : (d : A) (p : ℕ) → p < length l → passes (getD l p d) ≡ false → ((q : ℕ) → q < p → passes (getD l q d) ≡ true)
+      → (rs : List Row) → verdict (rowByPost passes codeAt l ∷ rs) ≡ record { code = codeAt p; place = p }
+  first-by-post d p h e before rs =
+      let f = firstNot-is passes l d p h e before in
+      row-holds (rowByPost passes codeAt l) rs (rw f (lt-ltb p (length l) h)) ∙ rw f
+
+  pub clear-by-post : rowByPost passes codeAt l .holds ≡ false ↔ all passes l ≡ true
+  clear-by-post = (ranged-all passes l, λ e. rw (all-firstNot passes l e) (le-ltb (length l) (length l) (omega arith)))
