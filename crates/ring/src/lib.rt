@@ -5,10 +5,9 @@ use codes::put_codes;
 use limits::lead_verdict;
 use limits::range_verdict;
 use post::mark::mark_at;
+use settings::grid_of;
 use settings::read_sheet;
 use surface::Answer;
-use surface::Grid;
-use surface::HIGHEST_RULE;
 use surface::PIT;
 use surface::RING_LENGTH;
 use surface::RingMark;
@@ -73,11 +72,7 @@ pub fn ring(
             mark: 0,
         };
     }
-    let grid = Grid {
-        rows: rows as usize,
-        columns: columns as usize,
-        highest: said.rule == HIGHEST_RULE,
-    };
+    let grid = grid_of(said, rows, columns);
     let p = post as usize;
     put_codes(heights, grid, p, ring);
     let mark = mark_at(heights, grid, p);

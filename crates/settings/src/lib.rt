@@ -5,6 +5,8 @@ mod frame;
 use entries::read_entries;
 use frame::is_bad;
 use surface::DEFAULT_RULE;
+use surface::Grid;
+use surface::HIGHEST_RULE;
 use surface::NAME_LENGTH;
 use surface::Sheet;
 ghost use mathlib.Core.Path.{_≡_};
@@ -12,7 +14,7 @@ ghost use Prim.Native.Nat.{_+_, _-_, _≤_, min};
 ghost use lib.ListN.{length, getD};
 ghost use Rattle.surface.specs.Lists.{listOf, stores};
 ghost use Rattle.surface.specs.Settings.{nameLength};
-ghost use Rattle.surface.specs.Calls.{sheetSays, settingsAnswer, settingsName};
+ghost use Rattle.surface.specs.Calls.{sheetSays, gridSaid, settingsAnswer, settingsName};
 ghost use Rattle.settings.specs.Walk.{refusal};
 
 // A refusal: its number, and 0 for all else.
@@ -50,6 +52,17 @@ fn read_bytes(sheet: &[u8]) -> Sheet
         return refused(13);
     }
     read_entries(sheet)
+}
+
+// The grid of a call with this sheet and these sides, by the rule that the sheet says.
+pub fn grid_of(said: Sheet, rows: u32, columns: u32) -> Grid
+    ensures { λ r. ⌜ r ≡ gridSaid said rows columns ⌝ }
+{
+    Grid {
+        rows: rows as usize,
+        columns: columns as usize,
+        highest: said.rule == HIGHEST_RULE,
+    }
 }
 
 // Copies n bytes of a sheet from `at` on to the front of a list.

@@ -5,11 +5,10 @@ mod verdict;
 
 use marks::mark_plot;
 use redraw::redraw;
+use settings::grid_of;
 use settings::read_sheet;
 use surface::Answer;
 use surface::Counts;
-use surface::Grid;
-use surface::HIGHEST_RULE;
 use verdict::reshoot_verdict;
 use verdict::survey_verdict;
 ghost use mathlib.Core.Path.{_≡_};
@@ -32,11 +31,7 @@ pub fn survey(sheet: &[u8], rows: u32, columns: u32, heights: &[i32], marks: &mu
             saddles: 0,
         };
     }
-    let grid = Grid {
-        rows: rows as usize,
-        columns: columns as usize,
-        highest: said.rule == HIGHEST_RULE,
-    };
+    let grid = grid_of(said, rows, columns);
     mark_plot(heights, grid, marks);
     let t = tally::count(marks);
     Counts {
@@ -68,11 +63,7 @@ pub fn reshoot(
     if code != 0 {
         return verdict;
     }
-    let grid = Grid {
-        rows: rows as usize,
-        columns: columns as usize,
-        highest: said.rule == HIGHEST_RULE,
-    };
+    let grid = grid_of(said, rows, columns);
     let p = post as usize;
     heights[p] = height;
     redraw(heights, grid, p, marks);

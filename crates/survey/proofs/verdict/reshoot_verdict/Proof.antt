@@ -10,7 +10,7 @@ use Rattle.surface.specs.Plot.{Plot, posts, isHeight}
 use Rattle.surface.specs.Refusals.{verdict, surveyVerdict, reshootVerdict, row5, row6}
 use Rattle.surface.specs.Calls.{plotSaid}
 use Rattle.surface.proofs.OfCalls.Verdicts.{code, leads-refused, leads-passed, row-holds, row-passed, none-left}
-use Rattle.surface.proofs.OfCalls.Accepted.{survey-valid}
+use Rattle.surface.proofs.OfCalls.MarkCalls.{survey-valid}
 use lib.ListN.{length}
 use Rattle.survey.proofs.verdict.reshoot_verdict.Statement.{statement}
 use Rattle.survey.proofs.verdict.reshoot_verdict.Tie as tie
