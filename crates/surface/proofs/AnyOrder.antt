@@ -17,6 +17,7 @@ pub mod Turns
 pub mod Census
 pub mod Balance
 pub mod Walks
+pub mod Ways
 pub mod Pieces
 pub mod Agreement
 pub mod Locality

@@ -1,5 +1,5 @@
 -- How many cells and border edges a plot has: twice the cells and the border edges are two for each post, less two.
-use Prim.Native.Nat.{ℕ, zero, suc, _+_, _-_, _*_, _/_, _%_, _≤_}
+use Prim.Native.Nat.{ℕ, zero, suc, _+_, _*_, _/_, _%_, _≤_}
 use native.Mathlib.Omega.{arith}
 use native.Mathlib.Nat.{suc-mul, one-mul, mul-one}
 use mathlib.Core.Path.{_≡_, refl, _∙_, ap}

@@ -14,7 +14,6 @@ use Rattle.surface.specs.Plot.{virtualPit, Vertex, reversed, Sides}
 use Rattle.surface.specs.Edges.{Edge, members, places, ring, isBorder}
 use Rattle.surface.specs.Marks.{mark, peaks, pits, saddles}
 use Rattle.surface.specs.Lines.{Descent, isEnd, next, end}
-use Rattle.surface.specs.Ways.{OnePiece, Way, here, step}
 use Rattle.surface.specs.Parts.{namesIn, InDale, InHill, Parts}
 use Rattle.surface.proofs.General.Bools.{same-test, either}
 use Rattle.surface.proofs.General.Sum.{sum-ext}
@@ -27,6 +26,7 @@ use Rattle.surface.proofs.AnyOrder.Runs.{mark-one, mark-two}
 use Rattle.surface.proofs.AnyOrder.Signs.{any-above}
 use Rattle.surface.proofs.AnyOrder.Balance.{balance}
 use Rattle.surface.proofs.AnyOrder.Walks.{Falling, next-step, end-stop, end-next, end-is-stop, end-inside, member-filter, member-any}
+use Rattle.surface.proofs.AnyOrder.Ways.{piece-map}
 use Rattle.surface.proofs.AnyOrder.Pieces.{one-piece}
 
 -- what the laws ask for
@@ -39,14 +39,6 @@ pub record Network (rows columns : ℕ) (lower : ℕ → ℕ → Bool) (falls : 
   pub picksDown : (p q : ℕ) (l : List ℕ) → List·Memᴰ q l → List·Memᴰ (pickDown p l) l
   pub picksPit : (p : ℕ) (l : List ℕ) → List·Memᴰ virtualPit l → pickDown p l ≡ virtualPit
   pub picksUp : (p q : ℕ) (l : List ℕ) → List·Memᴰ q l → List·Memᴰ (pickUp p l) l
-
--- a piece by one account of its members is a piece by another
-way-map : {edge : ℕ → ℕ → Type 0} {m m′ : ℕ → Type 0} → ((p : ℕ) → m p → m′ p) → {p q : ℕ} → Way edge m p q → Way edge m′ p q
-way-map f (here {p = p} i) = here (f p i)
-way-map f (step {p = p} i e w) = step (f p i) e (way-map f w)
-
-piece-map : {edge : ℕ → ℕ → Type 0} {m m′ : ℕ → Type 0} → ((p : ℕ) → m p → m′ p) → ((p : ℕ) → m′ p → m p) → OnePiece edge m → OnePiece edge m′
-piece-map f g piece p q i j = way-map f (piece p q (g p i) (g q j))
 
 -- The ends of a descent over n posts. `inside` are the vertices that belong to some end: all of them downward, the posts alone upward. `isName` are the
 -- ends among them, `mark` is what marks one that is a post, and each is where some post's walk ends.

@@ -8,21 +8,9 @@ use Rattle.surface.specs.Plot.{Vertex}
 use Rattle.surface.specs.Lines.{Descent, isEnd, next, end}
 use Rattle.surface.specs.Ways.{Way, here, step, OnePiece}
 use Rattle.surface.proofs.General.Bools.{either}
+use Rattle.surface.proofs.AnyOrder.Ways.{way-join, way-back}
 use Rattle.surface.proofs.AnyOrder.Order.{rank}
 use Rattle.surface.proofs.AnyOrder.Walks.{Falling, next-step, end-stop, end-next}
-
-module _ {edge : ℕ → ℕ → Type 0} {member : ℕ → Type 0} where
-  way-first : {p q : ℕ} → Way edge member p q → member p
-  way-first (here m) = m
-  way-first (step m e w) = m
-
-  way-join : {p q r : ℕ} → Way edge member p q → Way edge member q r → Way edge member p r
-  way-join (here m) w = w
-  way-join (step m e v) w = step m e (way-join v w)
-
-  way-back : ((p q : ℕ) → edge p q → edge q p) → {p q : ℕ} → Way edge member p q → Way edge member q p
-  way-back sym (here m) = here m
-  way-back sym (step {p = p} {q = q} m e w) = way-join (way-back sym w) (step (way-first w) (sym p q e) (here m))
 
 module _ {n : ℕ} {d : Descent} (law : Falling n d)
     (edge : ℕ → ℕ → Type 0)

@@ -1,9 +1,9 @@
 -- The outcomes of a survey and of a re-shoot, by whether the call was accepted, and what acceptance says of them.
 use Prim.Native.Nat.{ℕ, _<_}
-use mathlib.Core.Path.{_≡_, refl, ap}
+use mathlib.Core.Path.{_≡_}
 use mathlib.Core.Bool.{true}
-use mathlib.Core.List.{List, [], _∷_, _++_}
-use borrow.Author.Tests.{ltb-true, ne-eqb, eq-eqb, not-false}
+use mathlib.Core.List.{List}
+use borrow.Author.Tests.{ltb-true, ne-eqb, not-false}
 use lib.IntN.{ℤ}
 use lib.ListN.{length, set}
 use Rattle.surface.specs.Plot.{Plot, posts, reshot, isHeight, Valid}

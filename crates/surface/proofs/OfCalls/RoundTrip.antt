@@ -7,8 +7,7 @@ use mathlib.Core.List.{List, [], _∷_, _++_, map}
 use lib.IntN.{ℤ, pos, _*ℤ_}
 use lib.ListN.{length, getD, length-map, List·getD-map}
 use lib.Seq.{ext-getD}
-use borrow.Author.Tests.{le-ltb}
-use Rattle.surface.specs.Lists.{all, firstNot}
+use Rattle.surface.specs.Lists.{all}
 use Rattle.surface.specs.Plot.{Plot, plot, posts, isHeight, Valid}
 use Rattle.surface.specs.Rounding.{Nearest}
 use Rattle.surface.specs.Spacings.{Spaced, spacings}

@@ -13,7 +13,6 @@ use Rattle.surface.specs.Refusals.{verdict, sheetRows, sheetVerdict, res
 use Rattle.surface.specs.Calls.{sheetSays, plotBy, surveyAnswer, reshootAnswer}
 use Rattle.surface.specs.Series.{Reshoot, asked, Marked, afterCall, Kept}
 use Rattle.surface.specs.Sheets.{Passes, Sheets, KeptBy, Demand3BySheets}
-use Rattle.surface.specs.declared.Sheet.{Sheet}
 use Rattle.surface.proofs.OfCalls.Verdicts.{leads-passed, none-left}
 use Rattle.surface.proofs.OfCalls.Accepted.{SheetPasses}
 use Rattle.surface.proofs.OfCalls.MarkCalls.{survey-valid, reshoot-valid}

@@ -1,18 +1,17 @@
 -- Where next and lines go, over the outcomes of the calls.
 use Prim.Native.Nat.{ℕ, zero, suc}
-use mathlib.Core.Path.{_≡_, refl, sym, _∙_, ap}
+use mathlib.Core.Path.{_≡_, refl, sym, _∙_}
 use mathlib.Core.Bool.{Bool, true, false, cond, true≢false}
-use mathlib.Core.List.{List, [], _∷_, _++_, List·Memᴰ}
+use mathlib.Core.List.{List, _++_}
 use lib.ListN.{getD, drop, length}
 use borrow.Author.Tests.{eq-eqb, ne-eqb}
 use Rattle.surface.specs.Lists.{filter, any}
 use Rattle.surface.specs.Plot.{Plot, posts, virtualPit, below, reversed}
-use Rattle.surface.specs.Edges.{isBorder, ringOf, lowerRuns}
-use Rattle.surface.specs.Lines.{Descent, isEnd, next, walk, line, lineStart, runsOf, steepest, down, up, Chosen}
+use Rattle.surface.specs.Edges.{ringOf}
+use Rattle.surface.specs.Lines.{Descent, isEnd, next, walk, line, lineStart, steepest, down}
 use Rattle.surface.specs.Refusals.{nextVerdict, lineVerdict}
 use Rattle.surface.specs.Calls.{nextAnswer, nextDownAnswer, nextUpAnswer, lineAnswer, lineList, thalwegAnswer, thalwegList, ridgeAnswer, ridgeList}
 use Rattle.surface.specs.Steepest.{Goes, Steeply, SteepestEdges}
-use Rattle.surface.specs.declared.Next.{Next}
 use Rattle.surface.specs.declared.Spacings.{Spacings}
 use Rattle.surface.proofs.AnyOrder.Grid.{not-pit}
 use Rattle.surface.proofs.General.Order.{StrictTotal}

@@ -1,15 +1,15 @@
 -- The order in which posts are driven past is strict and total, and what rows tell of it.
 use Prim.Native.Nat.{ℕ, _+_, _-_, _*_, _%_, _≤_, _<_}
-use native.Mathlib.Nat.{add-mul, one-mul}
+use native.Mathlib.Nat.{add-mul, one-mul, mul-le-mul-right}
 use native.Mathlib.Omega.{arith}
 use mathlib.Core.Path.{_≡_, refl, sym, _∙_}
-use mathlib.Core.Bool.{Bool, true, false, not}
+use mathlib.Core.Bool.{Bool, true, false, cond, not}
 use lib.Dec.{ltb, eqb}
 use borrow.Author.Tests.{ltb-true, ltb-false, lt-ltb, le-ltb, eqb-true, eqb-false, eq-eqb, ne-eqb}
 use Rattle.surface.specs.Plot.{row, column, directed, isOdd, drivenBefore, Sides}
 use Rattle.surface.specs.Edges.{top, left, right}
 use Rattle.surface.proofs.General.Bools.{either, same-test, not-not}
-use Rattle.surface.proofs.AnyOrder.Grid.{post-is, row-ge, row-south, row-east, row-west, row-north, not-left, south-right, west-right, north-left}
+use Rattle.surface.proofs.AnyOrder.Grid.{post-is, column-lt, row-ge, row-south, row-east, row-west, row-north, not-left, south-right, west-right, north-left}
 use Rattle.surface.proofs.General.Order.{StrictTotal}
 use Rattle.surface.proofs.AnyOrder.Order.{directed-strict}
 use Rattle.surface.proofs.General.Lex.{ltb-weak, Level, Ties, lex-strict}
@@ -80,6 +80,50 @@ module _ (columns : ℕ) where
       go : (b : Bool) → directed b ltb (column columns p) (column columns q) ≡ directed b ltb p q
       go true = by-column q p (sym e)
       go false = by-column p q e
+
+-- a post's place along the drive: rows one after the other, odd ones from their last column
+abbrev pub alongDrive : ℕ → ℕ → ℕ
+alongDrive columns p = let c = column columns p in row columns p * columns + cond (isOdd (row columns p)) (columns - 1 - c) c
+
+-- to be driven past before is to have the lower place
+module _ {rows columns : ℕ} (s : Sides rows columns) where
+  place-in : (b : Bool) (p : ℕ) → cond b (columns - 1 - column columns p) (column columns p) < columns
+  place-in true p = omega (arith, s .wide)
+  place-in false p = column-lt s p
+
+  rows-along : (p q : ℕ) → row columns p < row columns q → alongDrive columns p < alongDrive columns q
+  rows-along p q h =
+      let e : (row columns p + 1) * columns ≡ row columns p * columns + columns = add-mul (row columns p) 1 columns ∙ rw (one-mul columns) in
+      omega (arith, mul-le-mul-right columns h, place-in (isOdd (row columns p)) p)
+
+  pub driven-along : (p q : ℕ) → drivenBefore columns p q ≡ ltb (alongDrive columns p) (alongDrive columns q)
+  driven-along p q =
+      either (eqb (row columns p) (row columns q)) (λ e. level (eqb-true _ _ e))
+      (λ e.
+      let h = eqb-false (row columns p) (row columns q) e in
+      rows-told columns p q h
+      ∙ same-test _ _
+      (λ k. lt-ltb _ _ (rows-along p q (ltb-true (row columns p) (row columns q) k)))
+      (λ k.
+      either (ltb (row columns p) (row columns q)) (λ f. f)
+      (λ f. absurd (omega (arith, ltb-true (alongDrive columns p) (alongDrive columns q) k, rows-along q p (omega (arith, ltb-false (row columns p) (row columns q) f, h)))))))
+    where
+      go : (b : Bool) (m : ℕ) → row columns p * columns ≡ m → row columns q * columns ≡ m
+          → directed b ltb p q
+          ≡ ltb (m + cond b (columns - 1 - column columns p) (column columns p)) (m + cond b (columns - 1 - column columns q) (column columns q))
+      go true m e f =
+          let a = m + (columns - 1 - column columns p) in
+          let b = m + (columns - 1 - column columns q) in
+          same-test _ _ (λ k. lt-ltb a b (omega (arith, ltb-true q p k, post-is columns p, post-is columns q, column-lt s p, column-lt s q)))
+          (λ k. lt-ltb q p (omega (arith, ltb-true a b k, post-is columns p, post-is columns q, column-lt s p, column-lt s q)))
+      go false m e f =
+          let a = m + column columns p in
+          let b = m + column columns q in
+          same-test _ _ (λ k. lt-ltb a b (omega (arith, ltb-true p q k, post-is columns p, post-is columns q)))
+          (λ k. lt-ltb p q (omega (arith, ltb-true a b k, post-is columns p, post-is columns q)))
+
+      level : row columns p ≡ row columns q → drivenBefore columns p q ≡ ltb (alongDrive columns p) (alongDrive columns q)
+      level e = row-driven columns p q e ∙ rw (sym e) (go (isOdd (row columns p)) _ refl (rw (sym e) refl))
 
 -- parities of rows that follow each other
 other-rest : (n k : ℕ) → k ≤ 1 → eqb ((n + 1) % 2) k ≡ not (eqb (n % 2) k)

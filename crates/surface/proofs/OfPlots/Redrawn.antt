@@ -42,7 +42,7 @@ module _ (pl : Plot) (s : Sides pl.rows pl.columns) (z : ℕ) (hs′ : List ℤ)
       (diagonal-local s (directed pl.highest (below pl)) (directed pl.highest (below (over pl hs′))) p (directed-agree pl.highest below-local))
 
 -- a new height at z
-markAt-set : (pl : Plot) (s : Sides pl.rows pl.columns) (z : ℕ) (new : ℤ) (p : ℕ) → p < posts pl → touches pl.columns z p ≡ false
+pub markAt-set : (pl : Plot) (s : Sides pl.rows pl.columns) (z : ℕ) (new : ℤ) (p : ℕ) → p < posts pl → touches pl.columns z p ≡ false
     → markAt (reshot pl z new) p ≡ markAt pl p
 markAt-set pl s z new p h apart = markAt-local (reshot pl z new) s z pl.heights (λ q w. getD-set-other pl.heights z q new (pos 0) w) p h apart
 

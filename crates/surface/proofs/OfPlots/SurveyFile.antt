@@ -1,17 +1,16 @@
 -- The parts of a survey file: filed heights, and what they are rounded to.
-use Prim.Native.Nat.{ℕ, zero, suc, _+_, _-_, _*_, _/_, _%_, _<_, _≤_}
-use native.Mathlib.Nat.{div-div-eq-div-mul}
+use Prim.Native.Nat.{ℕ, zero, suc, _+_, _*_, _<_, _≤_}
 use native.Mathlib.Numerals.{add-one}
 use native.Mathlib.Omega.{arith}
 use mathlib.Core.Path.{_≡_, refl, sym, _∙_, ap}
 use mathlib.Core.Bool.{true, not}
 use mathlib.Core.List.{List, [], _∷_, _++_, append-assoc, append-nil}
-use borrow.Author.Tests.{ltb-false, lt-ltb, le-ltb, not-true}
+use borrow.Author.Tests.{ltb-false, le-ltb, not-true}
 use lib.IntN.{ℤ, pos, negsuc, negℤ, _*ℤ_}
 use lib.Signed.{mag}
 use lib.Ieee.Nearest.{closest, closest-mono}
 use lib.ListN.{length, getD, take, length-append}
-use lib.Seq.{getD-append-add, take-suc}
+use lib.Seq.{take-suc}
 use Rattle.surface.specs.Lists.{listOf}
 use Rattle.surface.specs.Plot.{isHeight}
 use Rattle.surface.specs.Rounding.{roundTiesToEven}
