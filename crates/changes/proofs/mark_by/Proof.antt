@@ -8,8 +8,8 @@ use mir.Val.{boolByte}
 use borrow.Author.Tests.{lt-ltb, ne-eqb}
 use Rattle.surface.specs.Flags.{markBy}
 use borrow.Author.Needs.{needs}
-use Rattle.post.proofs.mark.mark_by.Statement.{statement}
-use Rattle.post.proofs.mark.mark_by.Tie as tie
+use Rattle.changes.proofs.mark_by.Statement.{statement}
+use Rattle.changes.proofs.mark_by.Tie as tie
 
 times : (b : Bool) (n : ℕ) → boolByte b * n ≡ cond b n 0
 times true n = omega arith
