@@ -110,7 +110,7 @@ first-out-requires c κs =
     let k = both (w .word-at .result) _ _ (c .before .if2 .left) in
     let h = header-bounds (versionIn (F (e w))) in
     let l = long (e w) in
-    (l, omega (arith, h, l, k .0, k .1, w .before .header-size .ensures))
+    (w .before .header-size .ensures, omega (arith, h, l, k .0, k .1, w .before .header-size .ensures))
 
 returns-4 : tie.Need-returns-4
 returns-4 c = rw (out (c .before)) (sym (passed2 (c .before .before) ∙ row-holds _ _ (ranged (c .before) ∙ lt-ltb _ _ (c .if4 .taken))))

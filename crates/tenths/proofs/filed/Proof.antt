@@ -1,12 +1,12 @@
--- `survey_file::tenths::filed` meets its contract: ten times a height in range fits 32 bits.
+-- `tenths::filed` meets its contract: ten times a height in range fits 32 bits.
 use borrow.Author.Needs.{needs}
 use lib.IntN.{pos, _*ℤ_}
 use mir.Syntax.{w32}
 use mir.Val.{SFits}
 use mir.Facts.{toZ-ofZ}
 use Rattle.surface.proofs.OfCalls.SurveyFile.{mag-tenfold}
-use Rattle.survey_file.proofs.tenths.filed.Statement.{statement}
-use Rattle.survey_file.proofs.tenths.filed.Tie as tie
+use Rattle.tenths.proofs.filed.Statement.{statement}
+use Rattle.tenths.proofs.filed.Tie as tie
 
 tenfold : (c : tie.Start) → SFits w32 (c .args .h *ℤ pos 10)
 tenfold c = record { sfits = mag-tenfold (c .args .h) (c .pre) }

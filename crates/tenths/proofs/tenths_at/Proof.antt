@@ -1,11 +1,11 @@
--- `survey_file::tenths::tenths_at` meets its contract, which joins those of its two callees.
+-- `tenths::tenths_at` meets its contract, which joins those of its two callees.
 use mathlib.Core.Path.{_≡_, _∙_, ap}
 use borrow.Author.Needs.{needs}
 use mir.Syntax.{w32}
 use mir.Val.{toZ, ofZ}
 use Rattle.surface.specs.SurveyFile.{signed}
-use Rattle.survey_file.proofs.tenths.tenths_at.Statement.{statement}
-use Rattle.survey_file.proofs.tenths.tenths_at.Tie as tie
+use Rattle.tenths.proofs.tenths_at.Statement.{statement}
+use Rattle.tenths.proofs.tenths_at.Tie as tie
 
 returns : tie.Need-returns
 returns c =

@@ -1,4 +1,4 @@
--- `survey_file::tenths::step` meets its contract: each return is by the tests that led to it.
+-- `tenths::step` meets its contract: each return is by the tests that led to it.
 use mathlib.Core.Path.{_≡_}
 use mathlib.Core.Bool.{true, false}
 use lib.IntN.{pos, negsuc}
@@ -6,8 +6,8 @@ use lib.Signed.{ltZ}
 use mir.Syntax.{w32}
 use mir.Val.{toZ, ofZ}
 use mir.Facts.{toZ-ofZ}
-use Rattle.survey_file.proofs.tenths.step.Statement.{statement}
-use Rattle.survey_file.proofs.tenths.step.Tie as tie
+use Rattle.tenths.proofs.step.Statement.{statement}
+use Rattle.tenths.proofs.step.Tie as tie
 
 -- a local holds its number's bits, which are read back as the number
 bits : (c : tie.Start) → toZ w32 (ofZ w32 (c .args .rest)) ≡ c .args .rest

@@ -1,4 +1,4 @@
--- `survey_file::tenths::round` meets its contract: no step of it goes beyond 32 bits, and what it gives is the nearest.
+-- `tenths::round` meets its contract: no step of it goes beyond 32 bits, and what it gives is the nearest.
 use Prim.Native.Nat.{ℕ}
 use mathlib.Core.Path.{_≡_, _∙_}
 use native.Mathlib.Omega.{arith}
@@ -8,10 +8,10 @@ use lib.Signed.{quotZ, remZ}
 use mir.Syntax.{w32}
 use mir.Val.{toZ, ofZ, SFits}
 use mir.Facts.{toZ-ofZ}
-use Rattle.survey_file.specs.Rounding.{stepFrom}
-use Rattle.survey_file.proofs.Numbers.{quot-fits, rem-fits, rest, rest-fits, rounded-is, rounded-fits}
-use Rattle.survey_file.proofs.tenths.round.Statement.{statement}
-use Rattle.survey_file.proofs.tenths.round.Tie as tie
+use Rattle.tenths.specs.Rounding.{stepFrom}
+use Rattle.tenths.proofs.Numbers.{quot-fits, rem-fits, rest, rest-fits, rounded-is, rounded-fits}
+use Rattle.tenths.proofs.round.Statement.{statement}
+use Rattle.tenths.proofs.round.Tie as tie
 
 -- a local holds its number's bits, which are read back as the number
 module _ (c : tie.Start) where

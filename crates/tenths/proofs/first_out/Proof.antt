@@ -1,4 +1,4 @@
--- `survey_file::tenths::first_out` meets its contract. The loop's invariant: what is looked for is i further than in the filed heights from i on.
+-- `tenths::first_out` meets its contract. The loop's invariant: what is looked for is i further than in the filed heights from i on.
 use Prim.Native.Nat.{_+_, _-_, _≤_}
 use mathlib.Core.Path.{_≡_, sym, _∙_, ap}
 use mathlib.Core.List.{List}
@@ -10,28 +10,25 @@ use lib.ListN.{length, drop, getD}
 use mir.Syntax.{w32}
 use mir.Val.{toZ, ofZ}
 use Rattle.surface.specs.Lists.{firstNot}
-use Rattle.surface.specs.SurveyFile.{versionIn, headerFor, isTenths, tenthsOf}
+use Rattle.surface.specs.SurveyFile.{isTenths, tenthsOf}
 use Rattle.surface.proofs.General.FirstNot.{firstNot-pass, firstNot-stop, firstNot-end}
 use Rattle.surface.proofs.OfCalls.SurveyFile.{length-tenthsOf, getD-tenthsOf}
-use Rattle.survey_file.proofs.tenths.first_out.Statement.{statement}
-use Rattle.survey_file.proofs.tenths.first_out.Tie as tie
+use Rattle.tenths.proofs.first_out.Statement.{statement}
+use Rattle.tenths.proofs.first_out.Tie as tie
 
 abbrev Inv-loop : tie.InvT-loop
-Inv-loop file n header i₀ i = (i ≤ n) × (firstNot isTenths (tenthsOf file n) ≡ i + firstNot isTenths (drop i (tenthsOf file n)))
+Inv-loop file header n i₀ i = (i ≤ n) × (firstNot isTenths (tenthsOf file n) ≡ i + firstNot isTenths (drop i (tenthsOf file n)))
 
 abbrev μ-loop : tie.MeasureT-loop
-μ-loop file n header i₀ i = n - i
+μ-loop file header n i₀ i = n - i
 
 -- the filed heights, seen from the loop's head, and how many they are
 module _ (l : tie.At-loop Inv-loop μ-loop) where
   abbrev Ts : List ℤ
-  Ts = tenthsOf (l .before .before .before .args .file .now) (l .before .before .before .args .n)
+  Ts = tenthsOf (l .before .before .args .file .now) (l .before .before .args .n)
 
-  many : length Ts ≡ l .before .before .before .args .n
-  many = length-tenthsOf (l .before .before .before .args .file .now) (l .before .before .before .args .n)
-
-at : (c : tie.In-loop Inv-loop μ-loop) → c .before .before .header-size .result ≡ headerFor (versionIn (c .before .before .before .before .args .file .now))
-at c = c .before .before .header-size .ensures
+  many : length Ts ≡ l .before .before .args .n
+  many = length-tenthsOf (l .before .before .args .file .now) (l .before .before .args .n)
 
 -- what `is_tenths` was asked and said
 tested :
@@ -43,7 +40,7 @@ tested c =
     let t = c .before .tenths-at .result in
     let r : toZ w32 (ofZ w32 t) ≡ t = search needs in
     (rw r at (c .is-tenths .ensures))
-    ∙ ap isTenths ((rw (l .before .header-size .ensures) at (c .before .tenths-at .ensures)) ∙ sym (getD-tenthsOf _ _ (l .loop .i) (c .before .before .loop-test .taken)))
+    ∙ ap isTenths ((rw (l .before .before .pre .0) at (c .before .tenths-at .ensures)) ∙ sym (getD-tenthsOf _ _ (l .loop .i) (c .before .before .loop-test .taken)))
 
 returns : tie.Need-returns Inv-loop μ-loop
 returns c =
@@ -64,8 +61,8 @@ first-out-spec =
     (tie.spec
     Inv-loop
     μ-loop
-    (search needs) (λ c. omega arith)
-    (λ c. omega (arith, at c)) (λ c. omega (arith, at c)) (λ c κs. omega (arith, at c)) (search needs)
+    (λ c. omega arith)
+    (λ c. omega arith) (λ c. omega arith) (λ c κs. omega arith) (search needs)
     returns (λ c. omega arith) (λ c. omega arith)
     loop-again
     returns-2)

@@ -17,7 +17,7 @@ use Rattle.surface.specs.Rounding.{roundTiesToEven}
 use Rattle.surface.specs.SurveyFile.{rounded}
 use Rattle.surface.proofs.General.Bools.{either}
 use Rattle.surface.proofs.General.Rounding.{closest-low, closest-high}
-use Rattle.survey_file.specs.Rounding.{stepFrom}
+use Rattle.tenths.specs.Rounding.{stepFrom}
 
 mag-neg : (k : ℕ) {n : ℕ} → k ≤ suc n → mag (negℤ (pos k)) ≤ n
 mag-neg zero h = omega arith
