@@ -1,7 +1,7 @@
 // The mark of a post, by its pattern.
+use crate::pattern::pattern_at;
 use changes::change_table;
 use changes::mark_of;
-use crate::pattern::pattern_at;
 use surface::Grid;
 ghost use mathlib.Core.Path.{_≡_};
 ghost use Rattle.surface.specs.Plot.{plotOf, PostOf};

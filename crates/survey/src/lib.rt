@@ -1,6 +1,5 @@
 // The two calls that write marks: survey and re-shoot.
 mod redraw;
-mod tally;
 mod verdict;
 
 use marks::mark_plot;
@@ -10,6 +9,7 @@ use surface::Answer;
 use surface::Counts;
 use surface::Grid;
 use surface::HIGHEST_RULE;
+use tally::count;
 use verdict::reshoot_verdict;
 use verdict::survey_verdict;
 ghost use mathlib.Core.Path.{_≡_};
@@ -38,7 +38,7 @@ pub fn survey(sheet: &[u8], rows: u32, columns: u32, heights: &[i32], marks: &mu
         highest: said.rule == HIGHEST_RULE,
     };
     mark_plot(heights, grid, marks);
-    let t = tally::count(marks);
+    let t = count(marks);
     Counts {
         code: 0,
         place: 0,

@@ -1,2 +1,2 @@
--- What the parts of a survey give each other.
+-- What a count of marks gives.
 pub mod Tally

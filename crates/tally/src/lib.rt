@@ -9,9 +9,9 @@ ghost use lib.ListN.{length, drop};
 ghost use Rattle.surface.specs.Lists.{one, count, total};
 ghost use Rattle.surface.specs.Plot.{maxPosts};
 ghost use Rattle.surface.specs.Marks.{multiplicity};
-ghost use Rattle.survey.specs.Tally.{Counted};
+ghost use Rattle.tally.specs.Tally.{Counted};
 
-pub(crate) struct Tally {
+pub struct Tally {
     pub peaks: u32,
     pub pits: u32,
     pub saddles: u32,
@@ -74,7 +74,7 @@ fn part_end(from: usize, end: usize) -> usize
 }
 
 // Counts the marks; the virtual pit is a pit.
-pub(crate) fn count(marks: &[u8]) -> Tally
+pub fn count(marks: &[u8]) -> Tally
     requires { ⌜ length (now marks) ≤ maxPosts ⌝ }
     ensures { λ r. ⌜ Counted (now (marks .entry)) (r .peaks) (r .pits) (r .saddles) ⌝ }
 {

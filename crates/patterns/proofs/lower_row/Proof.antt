@@ -6,7 +6,7 @@ use lib.ListN.{length, getD, length-set}
 use borrow.Author.Needs.{needs}
 use Rattle.surface.specs.Lists.{stores}
 use Rattle.surface.proofs.General.Stores.{store-next}
-use Rattle.patterns.specs.Rows.{lowerIn}
+use Rattle.patterns.specs.Rows.{patternIn}
 use Rattle.patterns.proofs.lower_row.Statement.{statement}
 use Rattle.patterns.proofs.lower_row.Tie as tie
 
@@ -14,7 +14,7 @@ abbrev Inv-loop : tie.InvT-loop
 Inv-loop upper side south fall rise under highest pattern₀ width c₀ pattern c =
     (c ≤ width)
     × (length pattern ≡ length pattern₀)
-    × (pattern ≡ stores (λ k. getD upper k 0 + lowerIn highest side south fall rise under k) 0 c pattern₀)
+    × (pattern ≡ stores (patternIn highest side south fall rise under upper) 0 c pattern₀)
 
 abbrev μ-loop : tie.MeasureT-loop
 μ-loop upper side south fall rise under highest pattern₀ width c₀ pattern c = width - c
@@ -34,7 +34,7 @@ mul-pattern-2 c = omega (arith, c .before .pair2 .ensures .1, c .before .before 
 
 add-pattern-2 : tie.Need-add-pattern-2 Inv-loop μ-loop
 add-pattern-2 c =
-    omega (arith, c .before .pair2 .ensures .1, c .before .before .before .before .before .pair .ensures .1, c .before .before .before .before .before .before .before .before .before .before .before .before .before .before .before .before .before .before .pre .3 (c .before .before .before .before .before .before .before .before .before .before .loop .c) (c .before .before .before .before .before .before .before .before .before .loop-test .taken))
+    omega (arith, c .before .pair2 .ensures .1, c .before .before .before .before .before .pair .ensures .1, c .before .before .before .before .before .before .before .before .before .before .before .before .before .before .before .before .before .before .pre .low (c .before .before .before .before .before .before .before .before .before .before .loop .c) (c .before .before .before .before .before .before .before .before .before .loop-test .taken))
 
 loop-again : tie.Need-loop-again Inv-loop μ-loop
 loop-again c =

@@ -7,7 +7,7 @@ lower-row-requires : tie.Need-lower-row-requires
 lower-row-requires c κs = c .before .before .before .before .before .before .before .before .before .before .pre
 
 upper-row-requires : tie.Need-upper-row-requires
-upper-row-requires c κs = let pre = c .before .before .before .before .before .before .before .before .before .before .before .before .before .before .pre in (pre .0, pre .1)
+upper-row-requires c κs = let pre = c .before .before .before .before .before .before .before .before .before .before .before .before .before .before .pre in record { flags = pre .flags; upperLong = pre .upperLong }
 
 returns : tie.Need-returns
 returns c = rw (c .before .before .before .before .before .before .before .before .before .if1 .taken) (c .before .before .before .before .before .before .lower-row .ensures, c .before .before .upper-row .ensures)
@@ -16,7 +16,7 @@ lower-row-requires-2 : tie.Need-lower-row-requires-2
 lower-row-requires-2 c κs = c .before .before .before .before .before .before .before .before .before .before .pre
 
 upper-row-requires-2 : tie.Need-upper-row-requires-2
-upper-row-requires-2 c κs = let pre = c .before .before .before .before .before .before .before .before .before .before .before .before .before .before .pre in (pre .0, pre .1)
+upper-row-requires-2 c κs = let pre = c .before .before .before .before .before .before .before .before .before .before .before .before .before .before .pre in record { flags = pre .flags; upperLong = pre .upperLong }
 
 returns-2 : tie.Need-returns-2
 returns-2 c = rw (c .before .before .before .before .before .before .before .before .before .if1 .left) (c .before .before .before .before .before .before .lower-row2 .ensures, c .before .before .upper-row2 .ensures)

@@ -7,9 +7,9 @@ use lib.Dec.{eqb}
 use lib.ListN.{length, drop}
 use Rattle.surface.specs.Lists.{count, total}
 use Rattle.surface.specs.Marks.{multiplicity, peaks, pits, saddles}
-use Rattle.survey.proofs.Scans.{count-end, total-end}
-use Rattle.survey.proofs.tally.count.Statement.{statement}
-use Rattle.survey.proofs.tally.count.Tie as tie
+use Rattle.tally.proofs.Scans.{count-end, total-end}
+use Rattle.tally.proofs.count.Statement.{statement}
+use Rattle.tally.proofs.count.Tie as tie
 
 abbrev Inv-loop : tie.InvT-loop
 Inv-loop marks peaks₀ pits₀ saddles₀ i₀ peaks pits saddles i =

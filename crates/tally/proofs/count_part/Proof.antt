@@ -5,9 +5,9 @@ use mathlib.Core.Path.{_≡_}
 use lib.Dec.{eqb}
 use lib.ListN.{drop}
 use Rattle.surface.specs.Lists.{count}
-use Rattle.survey.proofs.Scans.{count-pass}
-use Rattle.survey.proofs.tally.count_part.Statement.{statement}
-use Rattle.survey.proofs.tally.count_part.Tie as tie
+use Rattle.tally.proofs.Scans.{count-pass}
+use Rattle.tally.proofs.count_part.Statement.{statement}
+use Rattle.tally.proofs.count_part.Tie as tie
 
 abbrev Inv-loop : tie.InvT-loop
 Inv-loop marks from to mark n₀ i₀ n i =

@@ -1,9 +1,9 @@
--- `survey::tally::is` meets its contract.
+-- `tally::is_mark` meets its contract.
 use lib.Dec.{eqb}
 use borrow.Author.Needs.{needs}
 use Rattle.surface.proofs.General.Bools.{flag}
-use Rattle.survey.proofs.tally.is_mark.Statement.{statement}
-use Rattle.survey.proofs.tally.is_mark.Tie as tie
+use Rattle.tally.proofs.is_mark.Statement.{statement}
+use Rattle.tally.proofs.is_mark.Tie as tie
 
 returns : tie.Need-returns
 returns c = flag (eqb (c .args .m) (c .args .mark))

@@ -6,9 +6,9 @@ use mathlib.Core.List.{map}
 use lib.ListN.{drop}
 use Rattle.surface.specs.Lists.{total}
 use Rattle.surface.specs.Marks.{multiplicity}
-use Rattle.survey.proofs.Scans.{total-pass}
-use Rattle.survey.proofs.tally.total_part.Statement.{statement}
-use Rattle.survey.proofs.tally.total_part.Tie as tie
+use Rattle.tally.proofs.Scans.{total-pass}
+use Rattle.tally.proofs.total_part.Statement.{statement}
+use Rattle.tally.proofs.total_part.Tie as tie
 
 abbrev Inv-loop : tie.InvT-loop
 Inv-loop marks from to n₀ i₀ n i =

@@ -101,13 +101,13 @@ returns-2 c = sym (passed0 (e (c .before)) ∙ row-holds _ _ (tested (c .before)
 returns-3 : tie.Need-returns-3
 returns-3 c = sym (passed1 (c .before) ∙ row-holds _ _ (ap not (ne-eqb _ _ (λ z. c .if3 .taken (z ∙ sym (posts (c .before .before .before .before)))))))
 
-both : (n a b : ℕ) → not (eqb n a) || not (eqb n b) ≡ false → (n ≡ a) × (n ≡ b)
-both n a b e = (eqb-true n a (not-false _ (or-left _ _ e)), eqb-true n b (not-false _ (or-right (not (eqb n a)) _ e)))
+equal-both : (n a b : ℕ) → not (eqb n a) || not (eqb n b) ≡ false → (n ≡ a) × (n ≡ b)
+equal-both n a b e = (eqb-true n a (not-false _ (or-left _ _ e)), eqb-true n b (not-false _ (or-right (not (eqb n a)) _ e)))
 
 first-out-requires : tie.Need-first-out-requires
 first-out-requires c κs =
     let w = c .before .before in
-    let k = both (w .word-at .result) _ _ (c .before .if2 .left) in
+    let k = equal-both (w .word-at .result) _ _ (c .before .if2 .left) in
     let h = header-bounds (versionIn (F (e w))) in
     let l = long (e w) in
     (w .before .header-size .ensures, omega (arith, h, l, k .0, k .1, w .before .header-size .ensures))

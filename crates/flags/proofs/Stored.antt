@@ -8,8 +8,9 @@ use lib.ListN.{length, getD}
 use Rattle.surface.specs.Lists.{stores}
 use Rattle.surface.specs.Plot.{Plot, posts, below, Valid}
 use Rattle.surface.proofs.General.Stores.{stores-in, stores-out}
-use Rattle.patterns.specs.Rows.{RowOf, Side, Ends, South, Long}
-use Rattle.patterns.proofs.Told.{bottom-off, bottom-on}
+use Rattle.order.proofs.Level.{below-same}
+use Rattle.flags.specs.Rows.{RowOf, PitAtSides, PitAtEnds, Side, South, Long}
+use Rattle.flags.proofs.Beneath.{bottom-off, bottom-on}
 
 -- what stores within a row leave of its ends
 module _ (f : ℕ → Bool) (n : ℕ) (l₀ l : List Bool) (e : l ≡ stores f 1 n l₀) where
@@ -23,21 +24,32 @@ module _ (f : ℕ → Bool) (n : ℕ) (l₀ l : List Bool) (e : l ≡ stores f 1
   pub inner : (c : ℕ) {x : Bool} → n < length l₀ → c < n → f (c + 1) ≡ x → getD l (c + 1) false ≡ x
   inner c h i j = rw e (stores-in f 1 n l₀ (c + 1) false (omega arith) (omega arith) (omega arith)) ∙ j
 
--- the same posts, counted otherwise
-pub same : (pl : Plot) {p q x y : ℕ} → p ≡ q → x ≡ y → below pl p x ≡ below pl q y
-same pl e i = rw (e, i)
-
-pub side-stored : {pl : Plot} (base : ℕ) (side₀ side : List Bool) → Valid pl → pl.columns < length side₀ → getD side₀ 0 false ≡ false → getD side₀ pl.columns false ≡ true
+pub side-stored : {pl : Plot} (base : ℕ) (side₀ side : List Bool) → Valid pl → pl.columns < length side₀ → PitAtSides pl.columns side₀
     → side ≡ stores (λ k. below pl (base + 1 + (k - 1)) (base + (k - 1))) 1 (pl.columns - 1) side₀
     → Side pl base side
-side-stored {pl} base side₀ side valid h a b e =
+side-stored {pl} base side₀ side valid h pit e =
     record {
-      west = first _ _ _ _ e a;
-      east = last _ _ _ _ e pl.columns (omega (arith, valid .sides .wide)) b;
-      along = λ c k. inner _ _ _ _ e c (omega arith) (omega arith) (same pl (omega arith) (omega arith));
+      ends = record { west = first _ _ _ _ e (pit .west); east = last _ _ _ _ e pl.columns (omega (arith, valid .sides .wide)) (pit .east) };
+      along = λ c k. inner _ _ _ _ e c (omega arith) (omega arith) (below-same pl (omega arith) (omega arith));
     }
 
-module _ {pl : Plot} (valid : Valid pl) {base : ℕ} (at : RowOf pl.rows pl.columns base) {south₀ fall₀ rise₀ under₀ south fall rise under : List Bool} (long : Long pl.columns south₀ fall₀ rise₀ under₀) (ends : Ends pl.columns south₀ fall₀ rise₀ under₀) where
+-- stores within the rows to the row below leave their ends
+ends-left : {columns : ℕ} {south₀ fall₀ rise₀ south fall rise : List Bool} (f g h : ℕ → Bool) → 2 ≤ columns → PitAtEnds columns south₀ fall₀ rise₀
+    → south ≡ stores f 1 columns south₀
+    → fall ≡ stores g 1 (columns - 1) fall₀
+    → rise ≡ stores h 1 (columns - 1) rise₀
+    → PitAtEnds columns south fall rise
+ends-left {columns} f g h wide pit s u r =
+    record {
+      southFirst = first _ _ _ _ s (pit .southFirst);
+      southLast = last _ _ _ _ s (columns + 1) (omega arith) (pit .southLast);
+      fallFirst = first _ _ _ _ u (pit .fallFirst);
+      fallLast = last _ _ _ _ u columns (omega arith) (pit .fallLast);
+      riseFirst = first _ _ _ _ r (pit .riseFirst);
+      riseLast = last _ _ _ _ r columns (omega arith) (pit .riseLast);
+    }
+
+module _ {pl : Plot} (valid : Valid pl) {base : ℕ} (at : RowOf pl.rows pl.columns base) {south₀ fall₀ rise₀ under₀ south fall rise under : List Bool} (long : Long pl.columns south₀ fall₀ rise₀ under₀) (ends : PitAtEnds pl.columns south₀ fall₀ rise₀) (sides : PitAtSides pl.columns under₀) where
   -- by comparisons with the row below
   pub south-stored : base + pl.columns < posts pl
       → south ≡ stores (λ k. below pl (base + pl.columns + (k - 1)) (base + (k - 1))) 1 pl.columns south₀
@@ -48,18 +60,13 @@ module _ {pl : Plot} (valid : Valid pl) {base : ℕ} (at : RowOf pl.rows pl.colu
   south-stored more s f r u =
       let wide = valid .sides .wide in
       record {
-        down = λ c h. rw (bottom-off valid at more c h) (inner _ _ _ _ s c (long .southLong) h (same pl (omega arith) (omega arith)));
-        falls = λ _ c h. inner _ _ _ _ f c (omega (arith, long)) (omega arith) (same pl (omega arith) (omega arith));
-        rises = λ _ c h. inner _ _ _ _ r c (omega (arith, long)) (omega arith) (same pl (omega arith) (omega arith));
-        next = λ _. side-stored (base + pl.columns) under₀ under valid (long .underLong) (ends .underFirst) (ends .underLast) u;
+        down = λ c h. rw (bottom-off valid at more c h) (inner _ _ _ _ s c (long .southLong) h (below-same pl (omega arith) (omega arith)));
+        falls = λ _ c h. inner _ _ _ _ f c (omega (arith, long)) (omega arith) (below-same pl (omega arith) (omega arith));
+        rises = λ _ c h. inner _ _ _ _ r c (omega (arith, long)) (omega arith) (below-same pl (omega arith) (omega arith));
+        next = λ _. side-stored (base + pl.columns) under₀ under valid (long .underLong) sides u;
         beyond = λ i. absurd (omega arith);
         none = λ i. absurd (omega arith);
-        southFirst = first _ _ _ _ s (ends .southFirst);
-        southLast = last _ _ _ _ s (pl.columns + 1) (omega arith) (ends .southLast);
-        fallFirst = first _ _ _ _ f (ends .fallFirst);
-        fallLast = last _ _ _ _ f pl.columns (omega arith) (ends .fallLast);
-        riseFirst = first _ _ _ _ r (ends .riseFirst);
-        riseLast = last _ _ _ _ r pl.columns (omega arith) (ends .riseLast);
+        ends = ends-left _ _ _ wide ends s f r;
       }
 
   -- by the virtual pit
@@ -78,10 +85,5 @@ module _ {pl : Plot} (valid : Valid pl) {base : ℕ} (at : RowOf pl.rows pl.colu
         next = λ i. absurd (omega arith);
         beyond = λ _ c h. (inner _ _ _ _ f c (omega (arith, long)) (omega arith) refl, inner _ _ _ _ r c (omega (arith, long)) (omega arith) refl);
         none = λ _ c h. inner _ _ _ _ u c (long .underLong) h refl;
-        southFirst = first _ _ _ _ s (ends .southFirst);
-        southLast = last _ _ _ _ s (pl.columns + 1) (omega arith) (ends .southLast);
-        fallFirst = first _ _ _ _ f (ends .fallFirst);
-        fallLast = last _ _ _ _ f pl.columns (omega arith) (ends .fallLast);
-        riseFirst = first _ _ _ _ r (ends .riseFirst);
-        riseLast = last _ _ _ _ r pl.columns (omega arith) (ends .riseLast);
+        ends = ends-left _ _ _ wide ends s f r;
       }

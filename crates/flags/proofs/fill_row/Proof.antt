@@ -1,12 +1,12 @@
--- `patterns::fill_row` meets its contract. The loop's invariant: c stores were made.
+-- `flags::fill_row` meets its contract. The loop's invariant: c stores were made.
 use Prim.Native.Nat.{_+_, _-_, _≤_}
 use native.Mathlib.Omega.{arith}
 use mathlib.Core.Path.{_≡_, refl, _∙_}
 use lib.ListN.{length, length-set}
 use Rattle.surface.specs.Lists.{stores}
 use Rattle.surface.proofs.General.Stores.{store-next}
-use Rattle.patterns.proofs.fill_row.Statement.{statement}
-use Rattle.patterns.proofs.fill_row.Tie as tie
+use Rattle.flags.proofs.fill_row.Statement.{statement}
+use Rattle.flags.proofs.fill_row.Tie as tie
 
 abbrev Inv-loop : tie.InvT-loop
 Inv-loop flags₀ at n flag c₀ flags c = (c ≤ n) × (length flags ≡ length flags₀) × (flags ≡ stores (λ _. flag) at c flags₀)
