@@ -1,5 +1,4 @@
 -- What rows of flags tell of the posts.
-mod Halves
 mod Steps
 mod Told
 mod Top

@@ -12,8 +12,9 @@ use Rattle.surface.specs.Patterns.{patternAt}
 use Rattle.surface.proofs.General.Stores.{stores-in, stores-same}
 use Rattle.surface.proofs.OfPlots.Patterns.{pattern-flags}
 use Rattle.flags.specs.Rows.{RowOf, Side, South}
-use Rattle.patterns.specs.Rows.{upperIn, patternIn, Head}
-use Rattle.patterns.proofs.Halves.{halves-low}
+use Rattle.halves.specs.Halves.{upperIn, patternIn}
+use Rattle.halves.proofs.Halves.{halves-low}
+use Rattle.patterns.specs.Heads.{Head}
 use Rattle.patterns.proofs.Told.{lower-told}
 use Rattle.patterns.proofs.Turned.{upper-told}
 

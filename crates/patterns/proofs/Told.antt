@@ -16,7 +16,7 @@ use Rattle.surface.proofs.AnyOrder.Grid.{column-is, left-true, left-false, righ
 use Rattle.order.proofs.Level.{below-same}
 use Rattle.flags.specs.Rows.{RowOf, Side, South}
 use Rattle.flags.proofs.Beneath.{bottom-off, bottom-on}
-use Rattle.patterns.specs.Rows.{lowerIn}
+use Rattle.halves.specs.Halves.{lowerIn}
 
 -- tests that stand in another order
 pub or-cond : (u x : Bool) → cond u true x ≡ u || x

@@ -14,8 +14,9 @@ use Rattle.surface.proofs.AnyOrder.Grid.{row-fits}
 use Rattle.order.proofs.Level.{below-same}
 use Rattle.flags.specs.Rows.{PitAtSides}
 use Rattle.flags.proofs.Stored.{first, last, inner}
-use Rattle.patterns.specs.Rows.{upperIn, Head, Blank, Wide}
-use Rattle.patterns.proofs.Halves.{halves-low}
+use Rattle.halves.specs.Halves.{upperIn, Wide}
+use Rattle.halves.proofs.Halves.{halves-low}
+use Rattle.patterns.specs.Heads.{Head, Blank}
 use Rattle.patterns.proofs.Turned.{First, upper-first}
 
 module _ {pl : Plot} (valid : Valid pl) {width : ℕ} {side south₀ fall₀ rise₀ under₀ : List Bool} (long : Wide width side south₀ fall₀ rise₀ under₀) (wide : pl.columns ≤ width) (blank : Blank pl.columns side south₀ fall₀ rise₀) {under : List Bool} (told : under ≡ stores (λ k. below pl (0 + 1 + (k - 1)) (0 + (k - 1))) 1 (pl.columns - 1) (set (set under₀ pl.columns true) 0 (not (below pl pl.columns 0)))) where

@@ -14,7 +14,7 @@ use Rattle.surface.proofs.AnyOrder.Grid.{top-false, top-true, left-false, row-f
 use Rattle.surface.proofs.OfPlots.HeightOrder.{below-strict}
 use Rattle.flags.specs.Rows.{RowOf, Side, South}
 use Rattle.flags.proofs.Beneath.{row-below, bottom-off}
-use Rattle.patterns.specs.Rows.{upperIn}
+use Rattle.halves.specs.Halves.{upperIn}
 use Rattle.patterns.proofs.Told.{or-cond, and-cond, column-at, at-east, at-west}
 
 -- a flag turned

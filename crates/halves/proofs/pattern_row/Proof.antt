@@ -1,7 +1,7 @@
 -- A call for each rule.
 use borrow.Author.Needs.{needs}
-use Rattle.patterns.proofs.pattern_row.Statement.{statement}
-use Rattle.patterns.proofs.pattern_row.Tie as tie
+use Rattle.halves.proofs.pattern_row.Statement.{statement}
+use Rattle.halves.proofs.pattern_row.Tie as tie
 
 lower-row-requires : tie.Need-lower-row-requires
 lower-row-requires c κs = c .before .before .before .before .before .before .before .before .before .before .pre

@@ -6,9 +6,9 @@ use lib.ListN.{length, getD, length-set}
 use borrow.Author.Needs.{needs}
 use Rattle.surface.specs.Lists.{stores}
 use Rattle.surface.proofs.General.Stores.{store-next}
-use Rattle.patterns.specs.Rows.{patternIn}
-use Rattle.patterns.proofs.lower_row.Statement.{statement}
-use Rattle.patterns.proofs.lower_row.Tie as tie
+use Rattle.halves.specs.Halves.{patternIn}
+use Rattle.halves.proofs.lower_row.Statement.{statement}
+use Rattle.halves.proofs.lower_row.Tie as tie
 
 abbrev Inv-loop : tie.InvT-loop
 Inv-loop upper side south fall rise under highest pattern₀ width c₀ pattern c =

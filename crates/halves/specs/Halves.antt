@@ -1,12 +1,9 @@
--- What rows of flags (flags/specs/Rows) tell of patterns: the halves that a row of them gives, and where the patterns stand at the head of a row.
+-- What rows of flags (flags/specs/Rows) tell of patterns: the lower halves of a row's, and turned round the upper halves of the next row's.
 use Prim.Native.Nat.{ℕ, _+_, _≤_, _<_}
-use mathlib.Core.Path.{_≡_}
-use mathlib.Core.Bool.{Bool, true, false, not}
+use mathlib.Core.Bool.{Bool, false, not}
 use mathlib.Core.List.{List}
 use lib.ListN.{length, getD}
-use Rattle.surface.specs.Plot.{Plot, Valid}
-use Rattle.surface.specs.Flags.{pairBy, lowerBy, upperBy, northPair, westPair}
-use Rattle.flags.specs.Rows.{PitAtSides, PitAtEnds, Side}
+use Rattle.surface.specs.Flags.{pairBy, lowerBy, upperBy}
 
 -- the lower half of the pattern of the post in column c of a row, and the upper half of that of the post below it
 abbrev pub lowerIn : Bool → (side south fall rise under : List Bool) → ℕ → ℕ
@@ -23,22 +20,6 @@ upperIn h side south fall rise under c =
 abbrev pub patternIn : Bool → (side south fall rise under : List Bool) → List ℕ → ℕ → ℕ
 patternIn h side south fall rise under upper c = getD upper c 0 + lowerIn h side south fall rise under c
 
--- where the patterns stand at the head of the row that starts at `base`: the upper halves of its patterns are known, and the flags along it. (`low` is
--- of the places past the row's end too: with a lower half each stays a byte.)
-pub record Head (pl : Plot) (base width : ℕ) (side south fall rise under : List Bool) (upper : List ℕ) : Type 0 where
-  pub above : (c : ℕ) → c < pl.columns → getD upper c 0 ≡ upperBy (northPair pl (base + c)) (westPair pl (base + c))
-  pub low : (c : ℕ) → c < width → getD upper c 0 ≤ 195
-  pub along : Side pl base side
-  pub ends : PitAtEnds pl.columns south fall rise
-  pub sides : PitAtSides pl.columns under
-
--- the flags above the plot
-pub record Blank (columns : ℕ) (side south fall rise : List Bool) : Type 0 where
-  pub sideTrue : (c : ℕ) → c ≤ columns → getD side c false ≡ true
-  pub southFalse : (c : ℕ) → c ≤ columns → getD south c false ≡ false
-  pub fallFalse : (c : ℕ) → c ≤ columns → getD fall c false ≡ false
-  pub riseFalse : (c : ℕ) → c ≤ columns → getD rise c false ≡ false
-
 -- the rows of flags are long enough for n posts
 pub record Wide (n : ℕ) (side south fall rise under : List Bool) : Type 0 where
   pub sideLong : n < length side
@@ -47,7 +28,7 @@ pub record Wide (n : ℕ) (side south fall rise under : List Bool) : Type 0 wher
   pub riseLong : n < length rise
   pub underLong : n < length under
 
--- what the upper halves of a row ask; the patterns of a row; and the top row, above which is the virtual pit
+-- what the upper halves of a row ask, and what its patterns do
 pub record ForHalves (width : ℕ) (side south fall rise under : List Bool) (upper : List ℕ) : Type 0 where
   pub flags : Wide width side south fall rise under
   pub upperLong : width ≤ length upper
@@ -57,10 +38,3 @@ pub record ForPatterns (width : ℕ) (side south fall rise under : List Bool) (u
   pub upperLong : width ≤ length upper
   pub patternLong : width ≤ length pattern
   pub low : (c : ℕ) → c < width → getD upper c 0 ≤ 195
-
-pub record ForTop (pl : Plot) (width : ℕ) (side south fall rise under : List Bool) (upper : List ℕ) : Type 0 where
-  pub valid : Valid pl
-  pub flags : Wide width side south fall rise under
-  pub wide : pl.columns ≤ width
-  pub upperLong : width ≤ length upper
-  pub blank : Blank pl.columns side south fall rise

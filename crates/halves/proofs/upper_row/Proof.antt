@@ -7,10 +7,10 @@ use lib.ListN.{length, getD, length-set}
 use borrow.Author.Needs.{needs}
 use Rattle.surface.specs.Lists.{stores}
 use Rattle.surface.proofs.General.Stores.{store-next}
-use Rattle.patterns.specs.Rows.{upperIn}
-use Rattle.patterns.proofs.Halves.{pair-turned}
-use Rattle.patterns.proofs.upper_row.Statement.{statement}
-use Rattle.patterns.proofs.upper_row.Tie as tie
+use Rattle.halves.specs.Halves.{upperIn}
+use Rattle.halves.proofs.Halves.{pair-turned}
+use Rattle.halves.proofs.upper_row.Statement.{statement}
+use Rattle.halves.proofs.upper_row.Tie as tie
 
 abbrev Inv-loop : tie.InvT-loop
 Inv-loop side south fall rise under highest upper₀ width c₀ upper c =

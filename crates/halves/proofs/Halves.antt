@@ -9,7 +9,7 @@ use Rattle.surface.specs.Lists.{one, stores}
 use Rattle.surface.specs.Flags.{signBy, pairBy, upperBy}
 use Rattle.surface.proofs.General.Stores.{stores-in}
 use Rattle.surface.proofs.OfPlots.Patterns.{pair-le}
-use Rattle.patterns.specs.Rows.{upperIn}
+use Rattle.halves.specs.Halves.{upperIn}
 
 -- of flags turned, a sign is that by the other rule, turned
 sign-turned : (h x z a : Bool) → signBy h (not x) (not z) (not a) ≡ not (signBy (not h) x z a)
