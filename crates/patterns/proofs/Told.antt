@@ -1,5 +1,5 @@
 -- What rows of flags tell of the posts of a row: the lower halves of their patterns.
-use Prim.Native.Nat.{ℕ, _%_, _+_, _-_, _*_, _≤_, _<_}
+use Prim.Native.Nat.{ℕ, _%_, _+_, _-_, _≤_, _<_}
 use native.Mathlib.Omega.{arith}
 use mathlib.Core.Path.{_≡_, refl, sym, _∙_, ap, ap₂}
 use mathlib.Core.Bool.{Bool, true, false, cond, not, _&&_, _||_}

@@ -1,6 +1,7 @@
 -- After the rows up to 3, row 4.
 use mathlib.Core.Path.{_≡_, sym, _∙_}
-use mathlib.Core.List.{[], _∷_}
+use mathlib.Core.List.{List, [], _∷_}
+use Prim.Native.Nat.{ℕ}
 use native.Mathlib.Omega.{arith}
 use Rattle.surface.specs.Plot.{Plot}
 use Rattle.surface.specs.Refusals.{verdict, surveyVerdict}
@@ -15,8 +16,11 @@ use Rattle.survey.proofs.verdict.survey_verdict.Tie as tie
 abbrev asked : tie.Else1 → Plot
 asked c = let a = c .before .before .before .before .args in plotSaid (a .said) (a .rows) (a .columns) (a .heights .now)
 
+abbrev lent : tie.Else1 → List ℕ
+lent c = c .before .before .before .before .args .marks .now
+
 -- the rows up to 3 pass
-led : (c : tie.Else1) → verdict (leadingMarked (asked c) (c .before .before .before .before .args .marks .now)) .code ≡ 0
+led : (c : tie.Else1) → verdict (leadingMarked (asked c) (lent c)) .code ≡ 0
 led c = sym (code (c .before .before .marks-verdict .ensures)) ∙ c .if1 .left
 
 returns : tie.Need-returns
@@ -26,7 +30,7 @@ returns c =
     e ∙ sym (leads-refused (_ ∷ _ ∷ _ ∷ _ ∷ _ ∷ []) _ tt (λ z. c .if1 .taken (code e ∙ z)))
 
 heights-verdict-requires : tie.Need-heights-verdict-requires
-heights-verdict-requires c κs = let k = marked-sized (asked c) _ (led c) in omega (arith, k .0, k .1)
+heights-verdict-requires c κs = let k = marked-sized (asked c) (lent c) (led c) in omega (arith, k .0, k .1)
 
 returns-2 : tie.Need-returns-2
 unfolding surveyVerdict
