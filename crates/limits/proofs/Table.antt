@@ -1,4 +1,4 @@
--- Rows 1, 15, 2, 4 and 5 of the table, case by case.
+-- Rows 1, 15, 2, 4, 5 and 6 of the table, case by case.
 use Prim.Native.Nat.{ℕ}
 use native.Mathlib.Omega.{arith}
 use mathlib.Core.Path.{_≡_, refl, sym, _∙_, ap}
@@ -10,7 +10,7 @@ use lib.IntN.{ℤ}
 use lib.ListN.{length}
 use Rattle.surface.specs.Lists.{all, firstNot}
 use Rattle.surface.specs.Plot.{Plot, posts, isSide, isHeight}
-use Rattle.surface.specs.Refusals.{accepted, verdict, rowOf, row1, row2, row4, row5}
+use Rattle.surface.specs.Refusals.{accepted, verdict, rowOf, row1, row2, row4, row5, row6}
 use Rattle.surface.proofs.General.Bools.{either}
 use Rattle.surface.proofs.General.FirstNot.{all-firstNot, ranged-all}
 use Rattle.surface.proofs.OfCalls.Verdicts.{row-holds, row-passed, none-left}
@@ -51,3 +51,11 @@ pub range-posts :
     → length pl.heights ≡ posts pl
     → verdict (row4 isHeight pl.heights ∷ rowOf 5 (not (ltb post (length pl.heights))) ∷ []) ≡ verdict (row4 isHeight pl.heights ∷ row5 pl post ∷ [])
 range-posts pl post e = ap (λ (n : ℕ). verdict (row4 isHeight pl.heights ∷ rowOf 5 (not (ltb post n)) ∷ [])) e
+
+-- and with a new height
+pub shot-posts :
+    (pl : Plot) (post : ℕ) (new : ℤ)
+    → length pl.heights ≡ posts pl
+    → verdict (row4 isHeight pl.heights ∷ rowOf 5 (not (ltb post (length pl.heights))) ∷ row6 new ∷ [])
+    ≡ verdict (row4 isHeight pl.heights ∷ row5 pl post ∷ row6 new ∷ [])
+shot-posts pl post new e = ap (λ (n : ℕ). verdict (row4 isHeight pl.heights ∷ rowOf 5 (not (ltb post n)) ∷ row6 new ∷ [])) e

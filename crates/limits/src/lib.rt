@@ -16,7 +16,7 @@ ghost use lib.ListN.{length};
 ghost use Rattle.surface.specs.Lists.{all, firstNot};
 ghost use Rattle.surface.specs.Plot.{plot, maxPosts, isSide, isHeight};
 ghost use Rattle.surface.specs.Spacings.{isSpacing};
-ghost use Rattle.surface.specs.Refusals.{verdict, rowOf, row1, row2, row4, row15, sheetRows, leading, leadingSpaced, nextVerdict};
+ghost use Rattle.surface.specs.Refusals.{verdict, rowOf, row1, row2, row4, row6, row15, sheetRows, leading, leadingSpaced, nextVerdict};
 ghost use Rattle.surface.specs.Calls.{plotSaid};
 
 // Whether a plot may have these sides.
@@ -159,6 +159,21 @@ pub fn range_verdict(heights: &[i32], post: u32) -> Answer
     }
     if heights.len() <= post as usize {
         return Answer { code: 5, place: 0 };
+    }
+    Answer { code: 0, place: 0 }
+}
+
+// Rows 4, 5 and 6, where there is a height for each post: a new height at a post.
+pub fn shot_verdict(heights: &[i32], post: u32, height: i32) -> Answer
+    requires { ⌜ length (now heights) ≤ maxPosts ⌝ }
+    ensures { λ r. ⌜ r ≡ verdict (row4 isHeight (now (heights .entry)) ∷ rowOf 5 (not (ltb post (length (now (heights .entry))))) ∷ row6 height ∷ []) ⌝ }
+{
+    let range = range_verdict(heights, post);
+    if range.code != 0 {
+        return range;
+    }
+    if !is_height(height) {
+        return Answer { code: 6, place: 0 };
     }
     Answer { code: 0, place: 0 }
 }

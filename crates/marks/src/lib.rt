@@ -1,8 +1,8 @@
 // The marks of a whole plot, by its patterns: the table of changes is read for a part of the posts at a time, and their marks are told after that, so that
 // only the reading goes post by post.
+use changes::change_table;
+use changes::mark_of;
 use patterns::pattern_plot;
-use post::mark::mark_of;
-use post::pattern::change_table;
 use surface::Grid;
 ghost use mathlib.Core.Path.{_≡_};
 ghost use Prim.Native.Nat.{_+_, _≤_, _<_, min};
@@ -10,31 +10,31 @@ ghost use lib.ListN.{length, getD};
 ghost use Rattle.surface.specs.Lists.{stores};
 ghost use Rattle.surface.specs.Plot.{plotOf, posts, maxPosts, Valid};
 ghost use Rattle.surface.specs.Marks.{marksOf};
-ghost use Rattle.surface.specs.Patterns.{digitOf, changeTable, markIn};
+ghost use Rattle.surface.specs.Patterns.{changesIn, changeTable, markIn};
 
 // How many posts a part has.
 const PART: usize = 240;
 
-// The digits of the changes of n patterns, from `at` on.
-fn look_up(table: &[u8], patterns: &[u8], at: usize, n: usize, digits: &mut [u8])
-    requires { ⌜ (now table ≡ changeTable) × (at + n ≤ length (now patterns)) × (n ≤ length (now digits)) × ((c : _) → c < n → getD (now patterns) (at + c) 0 < 256) ⌝ }
-    ensures { λ _. ⌜ now (digits .exit) ≡ stores (λ c. digitOf (getD (now (patterns .entry)) (at + c) 0)) 0 n (now (digits .entry)) ⌝ }
+// The changes of n patterns, from `at` on.
+fn look_up(table: &[u8], patterns: &[u8], at: usize, n: usize, changes: &mut [u8])
+    requires { ⌜ (now table ≡ changeTable) × (at + n ≤ length (now patterns)) × (n ≤ length (now changes)) × ((c : _) → c < n → getD (now patterns) (at + c) 0 < 256) ⌝ }
+    ensures { λ _. ⌜ now (changes .exit) ≡ stores (λ c. changesIn (getD (now (patterns .entry)) (at + c) 0)) 0 n (now (changes .entry)) ⌝ }
 {
     let mut c = 0;
     while c < n {
-        digits[c] = table[patterns[at + c] as usize];
+        changes[c] = table[patterns[at + c] as usize];
         c += 1;
     }
 }
 
-// The marks of n patterns, from `at` on, in their place, by these digits of their changes.
-fn mark_part(digits: &[u8], marks: &mut [u8], at: usize, n: usize)
-    requires { ⌜ (n ≤ length (now digits)) × (at + n ≤ length (now marks)) × ((c : _) → c < n → getD (now digits) c 0 ≡ digitOf (getD (now marks) (at + c) 0)) ⌝ }
+// The marks of n patterns, from `at` on, in their place, by these numbers of changes.
+fn mark_part(changes: &[u8], marks: &mut [u8], at: usize, n: usize)
+    requires { ⌜ (n ≤ length (now changes)) × (at + n ≤ length (now marks)) × ((c : _) → c < n → getD (now changes) c 0 ≡ changesIn (getD (now marks) (at + c) 0)) ⌝ }
     ensures { λ _. ⌜ now (marks .exit) ≡ stores (λ k. markIn (getD (now (marks .entry)) k 0)) at n (now (marks .entry)) ⌝ }
 {
     let mut c = 0;
     while c < n {
-        marks[at + c] = mark_of(marks[at + c], digits[c]);
+        marks[at + c] = mark_of(marks[at + c], changes[c]);
         c += 1;
     }
 }
@@ -55,12 +55,12 @@ fn mark_all(marks: &mut [u8])
     ensures { λ _. ⌜ now (marks .exit) ≡ stores (λ k. markIn (getD (now (marks .entry)) k 0)) 0 (length (now (marks .entry))) (now (marks .entry)) ⌝ }
 {
     let table = change_table();
-    let mut digits = [0u8; PART];
+    let mut changes = [0u8; PART];
     let mut i = 0;
     while i < marks.len() {
         let n = part_of(marks.len() - i);
-        look_up(&table, marks, i, n, &mut digits);
-        mark_part(&digits, marks, i, n);
+        look_up(&table, marks, i, n, &mut changes);
+        mark_part(&changes, marks, i, n);
         i += n;
     }
 }

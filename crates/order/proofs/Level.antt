@@ -15,6 +15,10 @@ use Rattle.surface.proofs.General.Bools.{either, and-left, not-not}
 use Rattle.surface.proofs.AnyOrder.Grid.{not-pit}
 use Rattle.surface.proofs.OfPlots.HeightOrder.{ltZ-asym, below-lex}
 
+-- the same two posts, counted otherwise
+pub below-same : (pl : Plot) {p q p′ q′ : ℕ} → p ≡ p′ → q ≡ q′ → below pl p q ≡ below pl p′ q′
+below-same pl e f = rw (e, f)
+
 -- a vertex that is not the virtual pit
 pub vertex-post : {n p : ℕ} → Vertex n p → (p ≡ 65535 → ⊥) → p < n
 unfolding virtualPit

@@ -11,8 +11,10 @@ use Rattle.surface.specs.Flags.{upperBy, northPair, westPair}
 use Rattle.surface.specs.Patterns.{patternAt}
 use Rattle.surface.proofs.General.Stores.{stores-in, stores-same}
 use Rattle.surface.proofs.OfPlots.Patterns.{pattern-flags}
-use Rattle.patterns.specs.Rows.{lowerIn, upperIn, RowOf, Side, South, Head}
-use Rattle.patterns.proofs.Halves.{halves-low}
+use Rattle.flags.specs.Rows.{RowOf, Side, South}
+use Rattle.halves.specs.Halves.{upperIn, patternIn}
+use Rattle.halves.proofs.Halves.{halves-low}
+use Rattle.patterns.specs.Heads.{Head}
 use Rattle.patterns.proofs.Told.{lower-told}
 use Rattle.patterns.proofs.Turned.{upper-told}
 
@@ -44,22 +46,13 @@ module _ {pl : Plot} (valid : Valid pl) {base : ℕ} (at : RowOf pl.rows pl.colu
             ∙ upper-told valid at more c h e t;
         low = halves-low pl.highest side south fall rise under width upper₀ upper room i;
         along = t .next more;
-        ends =
-            record {
-              southFirst = t .southFirst;
-              southLast = t .southLast;
-              fallFirst = t .fallFirst;
-              fallLast = t .fallLast;
-              riseFirst = t .riseFirst;
-              riseLast = t .riseLast;
-              underFirst = t .next more .west;
-              underLast = t .next more .east;
-            };
+        ends = t .ends;
+        sides = t .next more .ends;
       }
 
   pub row-stored : (upper : List ℕ) → ((c : ℕ) → c < pl.columns → getD upper c 0 ≡ upperBy (northPair pl (base + c)) (westPair pl (base + c))) → Side pl base side
       → (pattern₀ pattern patterns₀ patterns : List ℕ) → width ≤ length pattern₀
-      → pattern ≡ stores (λ c. getD upper c 0 + lowerIn pl.highest side south fall rise under c) 0 width pattern₀
+      → pattern ≡ stores (patternIn pl.highest side south fall rise under upper) 0 width pattern₀
       → patterns ≡ stores (λ k. getD pattern (k - base) 0) base pl.columns patterns₀
       → patterns ≡ stores (patternAt pl) base pl.columns patterns₀
   row-stored upper above e pattern₀ pattern patterns₀ patterns room i j =
@@ -68,6 +61,6 @@ module _ {pl : Plot} (valid : Valid pl) {base : ℕ} (at : RowOf pl.rows pl.colu
       (λ c k.
       let x : base + c - base ≡ c = omega arith in
       rw (x, i)
-      (stores-in (λ c. getD upper c 0 + lowerIn pl.highest side south fall rise under c) 0 width pattern₀ c 0 (omega arith) (omega arith) (omega arith)
+      (stores-in (patternIn pl.highest side south fall rise under upper) 0 width pattern₀ c 0 (omega arith) (omega arith) (omega arith)
       ∙ ap₂ _+_ (above c k) (lower-told valid at c k e t)
       ∙ sym (pattern-flags (record { valid = valid; post = omega (arith, at) })))))

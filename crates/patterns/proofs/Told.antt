@@ -1,7 +1,6 @@
 -- What rows of flags tell of the posts of a row: the lower halves of their patterns.
-use Prim.Native.Nat.{ℕ, _%_, _+_, _-_, _*_, _≤_, _<_}
+use Prim.Native.Nat.{ℕ, _%_, _+_, _-_, _≤_, _<_}
 use native.Mathlib.Omega.{arith}
-use native.Mathlib.Nat.{mul-le-mul-right, add-mul, one-mul}
 use mathlib.Core.Path.{_≡_, refl, sym, _∙_, ap, ap₂}
 use mathlib.Core.Bool.{Bool, true, false, cond, not, _&&_, _||_}
 use mathlib.Core.List.{List}
@@ -13,12 +12,11 @@ use Rattle.surface.specs.Plot.{Plot, posts, below, Sides, Valid}
 use Rattle.surface.specs.Edges.{bottom, left, right}
 use Rattle.surface.specs.Flags.{lowerBy, eastPair, southPair}
 use Rattle.surface.proofs.General.Bools.{either}
-use Rattle.surface.proofs.AnyOrder.Grid.{row-lt, row-is, column-is, bottom-false, bottom-true, left-true, left-false, right-true, right-false}
-use Rattle.patterns.specs.Rows.{lowerIn, RowOf, Side, South}
-
-pub row-of : (rows columns r : ℕ) → r < rows → RowOf rows columns (r * columns)
-row-of rows columns r h =
-    record { r = r; start = refl; room = omega (arith, mul-le-mul-right columns h, add-mul r 1 columns, one-mul columns) }
+use Rattle.surface.proofs.AnyOrder.Grid.{column-is, left-true, left-false, right-true, right-false}
+use Rattle.order.proofs.Level.{below-same}
+use Rattle.flags.specs.Rows.{RowOf, Side, South}
+use Rattle.flags.proofs.Beneath.{bottom-off, bottom-on}
+use Rattle.halves.specs.Halves.{lowerIn}
 
 -- tests that stand in another order
 pub or-cond : (u x : Bool) → cond u true x ≡ u || x
@@ -38,25 +36,6 @@ and-cond false x = refl
 module _ {pl : Plot} (valid : Valid pl) {base : ℕ} (at : RowOf pl.rows pl.columns base) where
   s : Sides pl.rows pl.columns
   s = valid .sides
-
-  -- the same posts, counted otherwise
-  same : {p q x y : ℕ} → p ≡ q → x ≡ y → below pl p x ≡ below pl q y
-  same e i = rw (e, i)
-
-  -- the row below it, where it is there
-  pub row-below : base + pl.columns < posts pl → base + pl.columns + pl.columns ≤ posts pl
-  row-below h =
-      let k = pl.columns in
-      let e : base + k ≡ (at .r + 1) * k = omega (arith, at .start, add-mul (at .r) 1 k, one-mul k) in
-      let n : at .r + 1 < pl.rows =
-      omega (arith, row-lt s pl.rows ((at .r + 1) * k) .1 (omega arith), row-is s {q = (at .r + 1) * k} (at .r + 1) 0 (omega (arith, valid .sides)) (omega arith)) in
-      omega (arith, mul-le-mul-right k n, add-mul (at .r + 1) 1 k, one-mul k)
-
-  pub bottom-off : base + pl.columns < posts pl → (c : ℕ) → c < pl.columns → bottom pl.rows pl.columns (base + c) ≡ false
-  bottom-off h c k = bottom-false s (base + c) (omega (arith, at)) .1 (omega (arith, row-below h))
-
-  pub bottom-on : posts pl ≤ base + pl.columns → (c : ℕ) → c < pl.columns → bottom pl.rows pl.columns (base + c) ≡ true
-  bottom-on h c k = bottom-true s (base + c) (omega (arith, at)) .1 (omega arith)
 
   -- the post in column c, and what stands at its borders
   module _ (c : ℕ) (in-row : c < pl.columns) where
@@ -80,8 +59,8 @@ module _ {pl : Plot} (valid : Valid pl) {base : ℕ} (at : RowOf pl.rows pl.colu
 
     at-bottom : (v x y : Bool) → (posts pl ≤ base + pl.columns → y ≡ v) → (base + pl.columns < posts pl → y ≡ x) → y ≡ cond (bottom pl.rows pl.columns (base + c)) v x
     at-bottom v x y last inner =
-        either (ltb (base + pl.columns) (posts pl)) (λ e. let i = ltb-true (base + pl.columns) (posts pl) e in rw (bottom-off i c in-row) (inner i))
-        (λ e. let i = ltb-false (base + pl.columns) (posts pl) e in rw (bottom-on i c in-row) (last i))
+        either (ltb (base + pl.columns) (posts pl)) (λ e. let i = ltb-true (base + pl.columns) (posts pl) e in rw (bottom-off valid at i c in-row) (inner i))
+        (λ e. let i = ltb-false (base + pl.columns) (posts pl) e in rw (bottom-on valid at i c in-row) (last i))
 
     module _ {side south fall rise under : List Bool} (e : Side pl base side) (t : South pl base south fall rise under) where
       abbrev p : ℕ
@@ -101,13 +80,13 @@ module _ {pl : Plot} (valid : Valid pl) {base : ℕ} (at : RowOf pl.rows pl.colu
 
       east : getD side (c + 1) false ≡ r || below pl (p + 1) p
       east =
-          at-east true (below pl (p + 1) p) _ (λ i. ap (λ (n : ℕ). getD side n false) i ∙ e .east) (λ i. e .along c i ∙ same (omega arith) refl)
+          at-east true (below pl (p + 1) p) _ (λ i. ap (λ (n : ℕ). getD side n false) i ∙ e .ends .east) (λ i. e .along c i ∙ below-same pl (omega arith) refl)
           ∙ or-cond r _
 
       south-east : getD fall (c + 1) false ≡ r || (b || below pl (p + k + 1) p)
       south-east =
-          at-east true (cond b true (below pl (p + k + 1) p)) _ (λ i. ap (λ (n : ℕ). getD fall n false) i ∙ t .fallLast)
-          (λ i. at-bottom true (below pl (p + k + 1) p) _ (λ j. t .beyond j c i .0) (λ j. t .falls j c i ∙ same (omega arith) refl))
+          at-east true (cond b true (below pl (p + k + 1) p)) _ (λ i. ap (λ (n : ℕ). getD fall n false) i ∙ t .ends .fallLast)
+          (λ i. at-bottom true (below pl (p + k + 1) p) _ (λ j. t .beyond j c i .0) (λ j. t .falls j c i ∙ below-same pl (omega arith) refl))
           ∙ or-cond r _
           ∙ ap (λ (x : Bool). r || x) (or-cond b _)
 
@@ -115,35 +94,35 @@ module _ {pl : Plot} (valid : Valid pl) {base : ℕ} (at : RowOf pl.rows pl.colu
       east-after =
           at-bottom false (cond r true (below pl (p + k + 1) (p + k))) _ (λ j. t .none j c in-row)
           (λ j.
-          at-east true (below pl (p + k + 1) (p + k)) _ (λ i. ap (λ (n : ℕ). getD under n false) i ∙ t .next j .east)
-          (λ i. t .next j .along c i ∙ same (omega arith) (omega arith)))
+          at-east true (below pl (p + k + 1) (p + k)) _ (λ i. ap (λ (n : ℕ). getD under n false) i ∙ t .next j .ends .east)
+          (λ i. t .next j .along c i ∙ below-same pl (omega arith) (omega arith)))
           ∙ and-cond b _
           ∙ ap (λ (x : Bool). not b && x) (or-cond r _)
 
       south-is : getD south (c + 1) false ≡ b || below pl (p + k) p
-      south-is = t .down c in-row ∙ ap (λ (x : Bool). b || x) (same (omega arith) refl)
+      south-is = t .down c in-row ∙ ap (λ (x : Bool). b || x) (below-same pl (omega arith) refl)
 
       south-west : getD rise c false ≡ b || (l || below pl (p + k - 1) p)
       south-west =
-          at-west true (cond b true (below pl (p + k - 1) p)) _ (λ i. ap (λ (n : ℕ). getD rise n false) i ∙ t .riseFirst)
+          at-west true (cond b true (below pl (p + k - 1) p)) _ (λ i. ap (λ (n : ℕ). getD rise n false) i ∙ t .ends .riseFirst)
           (λ n i.
           ap (λ (m : ℕ). getD rise m false) i
-          ∙ at-bottom true (below pl (p + k - 1) p) _ (λ j. t .beyond j n (omega arith) .1) (λ j. t .rises j n (omega arith) ∙ same (omega arith) (omega arith)))
+          ∙ at-bottom true (below pl (p + k - 1) p) _ (λ j. t .beyond j n (omega arith) .1) (λ j. t .rises j n (omega arith) ∙ below-same pl (omega arith) (omega arith)))
           ∙ swapped l b _
 
       south-after : getD south c false ≡ not l && (b || below pl (p + k - 1) (p - 1))
       south-after =
-          at-west false (b || below pl (p + k - 1) (p - 1)) _ (λ i. ap (λ (n : ℕ). getD south n false) i ∙ t .southFirst)
+          at-west false (b || below pl (p + k - 1) (p - 1)) _ (λ i. ap (λ (n : ℕ). getD south n false) i ∙ t .ends .southFirst)
           (λ n i.
           ap (λ (m : ℕ). getD south m false) i
           ∙ t .down n (omega arith)
-          ∙ ap₂ _||_ (bottom-same n (omega arith)) (same (omega arith) (omega arith)))
+          ∙ ap₂ _||_ (bottom-same n (omega arith)) (below-same pl (omega arith) (omega arith)))
           ∙ and-cond l _
         where
           bottom-same : (n : ℕ) → n < k → bottom pl.rows k (base + n) ≡ b
           bottom-same n h =
-              at-bottom true false (bottom pl.rows k (base + n)) (λ j. bottom-on j n h) (λ j. bottom-off j n h)
-              ∙ sym (at-bottom true false b (λ j. bottom-on j c in-row) (λ j. bottom-off j c in-row))
+              at-bottom true false (bottom pl.rows k (base + n)) (λ j. bottom-on valid at j n h) (λ j. bottom-off valid at j n h)
+              ∙ sym (at-bottom true false b (λ j. bottom-on valid at j c in-row) (λ j. bottom-off valid at j c in-row))
 
       pub lower-told : lowerIn pl.highest side south fall rise under c ≡ lowerBy (eastPair pl p) (southPair pl p)
       unfolding eastPair southPair

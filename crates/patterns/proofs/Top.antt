@@ -11,9 +11,12 @@ use Rattle.surface.specs.Lists.{stores}
 use Rattle.surface.specs.Plot.{Plot, below, Valid}
 use Rattle.surface.proofs.General.Stores.{length-stores, stores-in}
 use Rattle.surface.proofs.AnyOrder.Grid.{row-fits}
-use Rattle.patterns.specs.Rows.{upperIn, Head, Blank, Wide}
-use Rattle.patterns.proofs.Halves.{halves-low}
-use Rattle.patterns.proofs.Stored.{first, last, inner, same}
+use Rattle.order.proofs.Level.{below-same}
+use Rattle.flags.specs.Rows.{PitAtSides}
+use Rattle.flags.proofs.Stored.{first, last, inner}
+use Rattle.halves.specs.Halves.{upperIn, Wide}
+use Rattle.halves.proofs.Halves.{halves-low}
+use Rattle.patterns.specs.Heads.{Head, Blank}
 use Rattle.patterns.proofs.Turned.{First, upper-first}
 
 module _ {pl : Plot} (valid : Valid pl) {width : ℕ} {side south₀ fall₀ rise₀ under₀ : List Bool} (long : Wide width side south₀ fall₀ rise₀ under₀) (wide : pl.columns ≤ width) (blank : Blank pl.columns side south₀ fall₀ rise₀) {under : List Bool} (told : under ≡ stores (λ k. below pl (0 + 1 + (k - 1)) (0 + (k - 1))) 1 (pl.columns - 1) (set (set under₀ pl.columns true) 0 (not (below pl pl.columns 0)))) where
@@ -37,7 +40,7 @@ module _ {pl : Plot} (valid : Valid pl) {width : ℕ} {side south₀ fall₀ ris
       ∙ getD-set-same under₀ pl.columns true false (omega (arith, long)))
 
   under-along : (c : ℕ) → c + 1 < pl.columns → getD under (c + 1) false ≡ below pl (0 + (c + 1)) (0 + c)
-  under-along c h = inner _ _ _ _ told c (omega (arith, start-long, long)) (omega arith) (same pl (omega arith) (omega arith))
+  under-along c h = inner _ _ _ _ told c (omega (arith, start-long, long)) (omega arith) (below-same pl (omega arith) (omega arith))
 
   -- above it
   above : First pl side (set south₀ (pl.columns + 1) true) fall₀ rise₀ under
@@ -59,6 +62,9 @@ module _ {pl : Plot} (valid : Valid pl) {width : ℕ} {side south₀ fall₀ ris
   under-long : 0 < length under
   under-long = omega (arith, ap length told, length-stores (λ k. below pl (0 + 1 + (k - 1)) (0 + (k - 1))) 1 (pl.columns - 1) start, start-long, long)
 
+  sides : PitAtSides pl.columns (set under 0 false)
+  sides = record { west = getD-set-same under 0 false false under-long; east = after pl.columns (omega (arith, columns)) ∙ under-east }
+
   pub top-told : (upper₀ upper : List ℕ) → width ≤ length upper₀ → upper ≡ stores (upperIn pl.highest side (set south₀ (pl.columns + 1) true) fall₀ rise₀ under) 0 width upper₀
       → Head pl 0 width (set under 0 false) (set south₀ (pl.columns + 1) true) (set fall₀ pl.columns true) (set rise₀ 0 true) (set under 0 false) upper
   top-told upper₀ upper room e =
@@ -70,8 +76,7 @@ module _ {pl : Plot} (valid : Valid pl) {width : ℕ} {side south₀ fall₀ ris
         low = halves-low pl.highest side (set south₀ (pl.columns + 1) true) fall₀ rise₀ under width upper₀ upper room e;
         along =
             record {
-              west = getD-set-same under 0 false false under-long;
-              east = after pl.columns (omega (arith, columns)) ∙ under-east;
+              ends = sides;
               along = λ c h. after (c + 1) (omega arith) ∙ under-along c h;
             };
         ends =
@@ -82,7 +87,6 @@ module _ {pl : Plot} (valid : Valid pl) {width : ℕ} {side south₀ fall₀ ris
               fallLast = getD-set-same fall₀ pl.columns true false (omega (arith, long));
               riseFirst = getD-set-same rise₀ 0 true false (omega (arith, long));
               riseLast = getD-set-other rise₀ 0 pl.columns true false (λ i. omega (arith, columns)) ∙ blank .riseFalse pl.columns (omega arith);
-              underFirst = getD-set-same under 0 false false under-long;
-              underLast = after pl.columns (omega (arith, columns)) ∙ under-east;
             };
+        sides = sides;
       }

@@ -12,8 +12,10 @@ use Rattle.surface.specs.Flags.{upperBy, northPair, westSign, westPair}
 use Rattle.surface.proofs.General.Bools.{not-not}
 use Rattle.surface.proofs.AnyOrder.Grid.{top-false, top-true, left-false, row-fits}
 use Rattle.surface.proofs.OfPlots.HeightOrder.{below-strict}
-use Rattle.patterns.specs.Rows.{upperIn, RowOf, Side, South}
-use Rattle.patterns.proofs.Told.{or-cond, and-cond, row-below, bottom-off, column-at, at-east, at-west}
+use Rattle.flags.specs.Rows.{RowOf, Side, South}
+use Rattle.flags.proofs.Beneath.{row-below, bottom-off}
+use Rattle.halves.specs.Halves.{upperIn}
+use Rattle.patterns.proofs.Told.{or-cond, and-cond, column-at, at-east, at-west}
 
 -- a flag turned
 turned : (pl : Plot) {x : Bool} (p q p′ q′ : ℕ) → x ≡ below pl q p → p < q → p ≡ p′ → q ≡ q′ → not x ≡ below pl p′ q′
@@ -46,14 +48,14 @@ module _ {pl : Plot} (valid : Valid pl) {base : ℕ} (at : RowOf pl.rows pl.colu
 
   north-east : not (getD rise (c + 1) false) ≡ r || below pl (q - k + 1) q
   north-east =
-      at-east valid below-row c in-row true _ _ (λ i. ap (λ (n : ℕ). not (getD rise n false)) i ∙ ap not (t .riseLast))
+      at-east valid below-row c in-row true _ _ (λ i. ap (λ (n : ℕ). not (getD rise n false)) i ∙ ap not (t .ends .riseLast))
       (λ i. turned pl (base + (c + 1)) q (q - k + 1) q (t .rises more c i) (omega arith) (omega arith) refl)
       ∙ or-cond r _
 
   north-after : not (getD south (c + 2) false) ≡ not r && below pl (q - k + 1) (q + 1)
   north-after =
       at-east valid below-row c in-row false _ _
-      (λ i. let j : c + 2 ≡ k + 1 = omega arith in ap (λ (n : ℕ). not (getD south n false)) j ∙ ap not (t .southLast))
+      (λ i. let j : c + 2 ≡ k + 1 = omega arith in ap (λ (n : ℕ). not (getD south n false)) j ∙ ap not (t .ends .southLast))
       (λ i.
       let j : c + 2 ≡ c + 1 + 1 = omega arith in
       ap (λ (n : ℕ). not (getD south n false)) j
@@ -69,17 +71,17 @@ module _ {pl : Plot} (valid : Valid pl) {base : ℕ} (at : RowOf pl.rows pl.colu
 
   west : not (getD under c false) ≡ l || below pl (q - 1) q
   west =
-      westward under _ (t .next more .west)
+      westward under _ (t .next more .ends .west)
       (λ n i. turned pl (base + k + n) (base + k + (n + 1)) (q - 1) q (t .next more .along n (omega arith)) (omega arith) (omega arith) (omega arith))
 
   north-west : not (getD fall c false) ≡ l || below pl (q - k - 1) q
   north-west =
-      westward fall _ (t .fallFirst)
+      westward fall _ (t .ends .fallFirst)
       (λ n i. turned pl (base + n) (base + k + (n + 1)) (q - k - 1) q (t .falls more n (omega arith)) (omega arith) (omega arith) (omega arith))
 
   west-after : not (getD side c false) ≡ l || below pl (q - k - 1) (q - k)
   west-after =
-      westward side _ (e .west)
+      westward side _ (e .ends .west)
       (λ n i. turned pl (base + n) (base + (n + 1)) (q - k - 1) (q - k) (e .along n (omega arith)) (omega arith) (omega arith) (omega arith))
 
   pub upper-told : upperIn pl.highest side south fall rise under c ≡ upperBy (northPair pl q) (westPair pl q)

@@ -1,2 +1,2 @@
--- What rows of flags tell.
-pub mod Rows
+-- Where the patterns stand at the head of a row.
+pub mod Heads

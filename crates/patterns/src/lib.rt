@@ -1,37 +1,23 @@
 // The patterns of a whole plot, a row at a time, by rows of comparisons of the posts that touch.
+use flags::south_rows;
+use halves::pattern_row;
+use halves::upper_row;
 use order::SOUTH;
 use order::east_row;
 use order::is_below_by;
-use order::later_row;
-use post::pattern::pair;
 use surface::Grid;
 ghost use mathlib.Core.Path.{_≡_};
-ghost use Prim.Native.Nat.{_+_, _-_, _≤_, _<_};
+ghost use Prim.Native.Nat.{_+_, _-_, _≤_};
 ghost use lib.ListN.{length, getD};
 ghost use Rattle.surface.specs.Lists.{listOf, stores};
-ghost use Rattle.surface.specs.Plot.{plotOf, posts, row, isOdd, Valid};
+ghost use Rattle.surface.specs.Plot.{plotOf, posts, Valid};
 ghost use Rattle.surface.specs.Patterns.{patternAt};
-ghost use Rattle.patterns.specs.Rows.{lowerIn, upperIn, RowOf, Blank, Ends, South, Head, Long, Wide};
+ghost use Rattle.patterns.specs.Heads.{Head, ForTop};
 
 // A row is worked on in whole blocks of 16 posts, the last one filled up, so that no post is left over from the vector code; two flags more than that.
 const WIDTH: usize = 128;
 
 const FLAGS: usize = 130;
-
-// The upper half of a pattern whose signs are all true.
-const UPPER: u8 = 195;
-
-// Sets n flags from `at` on.
-fn fill_row(flags: &mut [bool], at: usize, n: usize, flag: bool)
-    requires { ⌜ at + n ≤ length (now flags) ⌝ }
-    ensures { λ _. ⌜ now (flags .exit) ≡ stores (λ _. flag) at n (now (flags .entry)) ⌝ }
-{
-    let mut c = 0;
-    while c < n {
-        flags[at + c] = flag;
-        c += 1;
-    }
-}
 
 // Copies the first n patterns to those from `at` on.
 fn copy_row(from: &[u8], n: usize, patterns: &mut [u8], at: usize)
@@ -43,108 +29,6 @@ fn copy_row(from: &[u8], n: usize, patterns: &mut [u8], at: usize)
         patterns[at + c] = from[c];
         c += 1;
     }
-}
-
-// The flags from the row that starts at `base`, and is odd or not, to the one below it, and along that one; below the bottom row is the virtual pit.
-fn south_rows(
-    heights: &[i32],
-    grid: Grid,
-    base: usize,
-    odd: bool,
-    south: &mut [bool],
-    fall: &mut [bool],
-    rise: &mut [bool],
-    under: &mut [bool],
-)
-    requires { ⌜ Valid (plotOf grid (now heights)) × RowOf (grid .rows) (grid .columns) base × (odd ≡ isOdd (row (grid .columns) base)) × Long (grid .columns) (now south) (now fall) (now rise) (now under) × Ends (grid .columns) (now south) (now fall) (now rise) (now under) ⌝ }
-    ensures { λ _. ⌜ South (plotOf grid (now (heights .entry))) base (now (south .exit)) (now (fall .exit)) (now (rise .exit)) (now (under .exit)) ⌝ }
-{
-    let columns = grid.columns;
-    let next = base + columns;
-    if next < heights.len() {
-        later_row(heights, grid, base, next, SOUTH, south, 1, columns);
-        later_row(heights, grid, base, next + 1, SOUTH, fall, 1, columns - 1);
-        later_row(heights, grid, base + 1, next, SOUTH, rise, 1, columns - 1);
-        east_row(heights, grid, next, !odd, under);
-        return;
-    }
-    fill_row(south, 1, columns, true);
-    fill_row(fall, 1, columns - 1, true);
-    fill_row(rise, 1, columns - 1, true);
-    fill_row(under, 1, columns, false);
-}
-
-// The patterns of the first posts of a row: the upper halves, worked out with the row above, and to them the pairs of E and of S by the flags.
-fn lower_row(
-    upper: &[u8],
-    side: &[bool],
-    south: &[bool],
-    fall: &[bool],
-    rise: &[bool],
-    under: &[bool],
-    highest: bool,
-    pattern: &mut [u8],
-    width: usize,
-)
-    requires { ⌜ Wide width (now side) (now south) (now fall) (now rise) (now under) × (width ≤ length (now upper)) × (width ≤ length (now pattern)) × ((c : _) → c < width → getD (now upper) c 0 ≤ 195) ⌝ }
-    ensures { λ _. ⌜ now (pattern .exit) ≡ stores (λ c. getD (now (upper .entry)) c 0 + lowerIn highest (now (side .entry)) (now (south .entry)) (now (fall .entry)) (now (rise .entry)) (now (under .entry)) c) 0 width (now (pattern .entry)) ⌝ }
-{
-    let mut c = 0;
-    while c < width {
-        let e = pair(side[c + 1], fall[c + 1], under[c + 1], highest);
-        let s = pair(south[c + 1], rise[c], south[c], highest);
-        pattern[c] = upper[c] + 4 * (e + 4 * s);
-        c += 1;
-    }
-}
-
-// The upper halves of the patterns of the row below, the pairs of N and of W, of which the flags tell turned round. A pair of turned flags is the turned
-// pair by the other rule: so no flag has to be turned by itself.
-fn upper_row(
-    side: &[bool],
-    south: &[bool],
-    fall: &[bool],
-    rise: &[bool],
-    under: &[bool],
-    highest: bool,
-    upper: &mut [u8],
-    width: usize,
-)
-    requires { ⌜ Wide width (now side) (now south) (now fall) (now rise) (now under) × (width ≤ length (now upper)) ⌝ }
-    ensures { λ _. ⌜ now (upper .exit) ≡ stores (upperIn highest (now (side .entry)) (now (south .entry)) (now (fall .entry)) (now (rise .entry)) (now (under .entry))) 0 width (now (upper .entry)) ⌝ }
-{
-    let mut c = 0;
-    while c < width {
-        let n = pair(south[c + 1], rise[c + 1], south[c + 2], !highest);
-        let w = pair(under[c], fall[c], side[c], !highest);
-        upper[c] = UPPER - (n + 64 * w);
-        c += 1;
-    }
-}
-
-// Both, by a call for each rule, so that the compiler makes loops for each.
-fn pattern_row(
-    upper: &mut [u8],
-    side: &[bool],
-    south: &[bool],
-    fall: &[bool],
-    rise: &[bool],
-    under: &[bool],
-    highest: bool,
-    pattern: &mut [u8],
-    width: usize,
-)
-    requires { ⌜ Wide width (now side) (now south) (now fall) (now rise) (now under) × (width ≤ length (now upper)) × (width ≤ length (now pattern)) × ((c : _) → c < width → getD (now upper) c 0 ≤ 195) ⌝ }
-    ensures { λ _. ⌜ now (pattern .exit) ≡ stores (λ c. getD (now (upper .entry)) c 0 + lowerIn highest (now (side .entry)) (now (south .entry)) (now (fall .entry)) (now (rise .entry)) (now (under .entry)) c) 0 width (now (pattern .entry)) ⌝ }
-    ensures { λ _. ⌜ now (upper .exit) ≡ stores (upperIn highest (now (side .entry)) (now (south .entry)) (now (fall .entry)) (now (rise .entry)) (now (under .entry))) 0 width (now (upper .entry)) ⌝ }
-{
-    if highest {
-        lower_row(upper, side, south, fall, rise, under, true, pattern, width);
-        upper_row(side, south, fall, rise, under, true, upper, width);
-        return;
-    }
-    lower_row(upper, side, south, fall, rise, under, false, pattern, width);
-    upper_row(side, south, fall, rise, under, false, upper, width);
 }
 
 // The flags and the upper halves at the top row, above which is the virtual pit; the first post of all has no member at W and carries the sign of S there.
@@ -160,8 +44,9 @@ fn top_row(
     upper: &mut [u8],
     width: usize,
 )
-    requires { ⌜ Valid (plotOf grid (now heights)) × Wide width (now side) (now south) (now fall) (now rise) (now under) × (grid .columns ≤ width) × (width ≤ length (now upper)) × Blank (grid .columns) (now side) (now south) (now fall) (now rise) ⌝ }
-    ensures { λ _. ⌜ Head (plotOf grid (now (heights .entry))) 0 width (now (under .exit)) (now (south .exit)) (now (fall .exit)) (now (rise .exit)) (now (under .exit)) (now (upper .exit)) ⌝ }
+    requires { ⌜ ForTop (plotOf grid (now heights)) width (now side) (now south) (now fall) (now rise) (now under) (now upper) ⌝ }
+    ensures { λ _. ⌜ Head (plotOf grid (now (heights .entry))) 0 width
+        (now (under .exit)) (now (south .exit)) (now (fall .exit)) (now (rise .exit)) (now (under .exit)) (now (upper .exit)) ⌝ }
 {
     let columns = grid.columns;
     south[columns + 1] = true;

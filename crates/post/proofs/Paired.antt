@@ -2,14 +2,10 @@
 use Prim.Native.Nat.{ℕ}
 use mathlib.Core.Path.{_≡_, refl, sym}
 use mathlib.Core.Bool.{Bool, true, false, cond, not, _&&_, _||_}
-use Rattle.surface.specs.Plot.{Plot, drivenBefore, below}
+use Rattle.surface.specs.Plot.{drivenBefore}
 use Rattle.surface.specs.Flags.{pairBy}
 
--- the same two posts, counted otherwise
-pub same : (pl : Plot) {p q p′ q′ : ℕ} → p ≡ p′ → q ≡ q′ → below pl p q ≡ below pl p′ q′
-same pl e f = rw (e, f)
-
--- which of them is driven past first, given of the same two
+-- which of two posts is driven past first, given of the same two, counted otherwise
 pub as-told : (columns : ℕ) {p q : ℕ} {tie : Bool} (p′ q′ : ℕ) → drivenBefore columns p′ q′ ≡ tie → p ≡ p′ → q ≡ q′ → tie ≡ drivenBefore columns p q
 as-told columns p′ q′ h e f = rw (e, f) (sym h)
 

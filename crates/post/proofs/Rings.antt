@@ -43,13 +43,13 @@ pub grows-end : (s : Ring) → held s ≡ held s ++ members []
 unfolding members
 grows-end s = sym (append-nil (held s))
 
-pub whole : (r : Ring) (l : List ℕ) → r .len ≤ 8 → length (r .members) ≡ 8 → held r ≡ l → Holds r l
-whole r l h k e = record { members = e; len = sym (length-take-le (r .len) (r .members) (omega arith)) ∙ ap length e; low = h; size = k }
+pub holds-whole : (r : Ring) (l : List ℕ) → r .len ≤ 8 → length (r .members) ≡ 8 → held r ≡ l → Holds r l
+holds-whole r l h k e = record { members = e; len = sym (length-take-le (r .len) (r .members) (omega arith)) ∙ ap length e; low = h; size = k }
 
 -- places that hold the same
-same : (x y : Place) (l m : List Place) → keep (x .taken) (x .member) ≡ keep (y .taken) (y .member) → members l ≡ members m → members (x ∷ l) ≡ members (y ∷ m)
+members-same : (x y : Place) (l m : List Place) → keep (x .taken) (x .member) ≡ keep (y .taken) (y .member) → members l ≡ members m → members (x ∷ l) ≡ members (y ∷ m)
 unfolding members
-same x y l m h k = rw (h, k)
+members-same x y l m h k = rw (h, k)
 
 side : (taken b : Bool) {x y : ℕ} → x ≡ y → keep taken (cond (not b) x virtualPit) ≡ keep taken (cond b virtualPit y)
 side taken true h = refl
@@ -68,14 +68,14 @@ module _ {rows columns : ℕ} (s : Sides rows columns) (p : ℕ) (falls : ℕ �
       let l = left columns p in
       let r = right columns p in
       let joined = cornersOf rows columns falls p in
-      same _ _ _ _ (side true t (omega arith))
-      (same _ _ _ _ (corner (joined .ne) (λ k. omega (arith, top-false s p .0 (diagonal t r (not (falls (p - columns))) k .0))))
-      (same _ _ _ _ (side (not (r && t)) r (omega arith))
-      (same _ _ _ _ (corner (joined .se) (λ k. omega arith))
-      (same _ _ _ _ (side (not (b && (t || r))) b (omega arith))
-      (same _ _ _ _ (corner (joined .sw) (λ k. omega arith))
-      (same _ _ _ _ (side (not (l && (t || (r || b)))) l (omega arith))
-      (same _ _ _ _ (corner (joined .nw) (λ k. omega arith)) refl)))))))
+      members-same _ _ _ _ (side true t (omega arith))
+      (members-same _ _ _ _ (corner (joined .ne) (λ k. omega (arith, top-false s p .0 (diagonal t r (not (falls (p - columns))) k .0))))
+      (members-same _ _ _ _ (side (not (r && t)) r (omega arith))
+      (members-same _ _ _ _ (corner (joined .se) (λ k. omega arith))
+      (members-same _ _ _ _ (side (not (b && (t || r))) b (omega arith))
+      (members-same _ _ _ _ (corner (joined .sw) (λ k. omega arith))
+      (members-same _ _ _ _ (side (not (l && (t || (r || b)))) l (omega arith))
+      (members-same _ _ _ _ (corner (joined .nw) (λ k. omega arith)) refl)))))))
 
 -- the members of a ring are vertices of the plot
 pub held-vertex : {pl : Plot} {p : ℕ} {r : Ring} → PostOf pl p → Holds r (ringOf pl p) → (i : ℕ) → i < r .len → Vertex (posts pl) (getD (held r) i 0)

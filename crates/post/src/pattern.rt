@@ -13,35 +13,8 @@ ghost use Prim.Native.Nat.{_+_, _-_, _≤_, _<_};
 ghost use Rattle.surface.specs.Lists.{one};
 ghost use Rattle.surface.specs.Plot.{plotOf, posts, row, isOdd, drivenBefore, below, Valid, PostOf};
 ghost use Rattle.surface.specs.Flags.{signBy, pairBy, eastPair, southPair, northPair, westSign, westPair};
-ghost use Rattle.surface.specs.Patterns.{changeTable, patternAt};
+ghost use Rattle.surface.specs.Patterns.{patternAt};
 ghost use Rattle.post.specs.Corners.{bordersOf};
-
-// For each pattern how many changes of side there are round its eight signs, taken as a circle: a digit each, in a row by the signs from S to NW, at a
-// place by those from N to SE.
-const CHANGES: [u8; 256] = *b"\
-    0222242224442422\
-    2444464424442422\
-    2444464446664644\
-    2444464424442422\
-    2444464446664644\
-    4666686646664644\
-    2444464446664644\
-    2444464424442422\
-    2242444244644442\
-    4464666444644442\
-    4464666466866664\
-    4464666444644442\
-    2242444244644442\
-    4464666444644442\
-    2242444244644442\
-    2242444222422220";
-
-// The table, to be made once and lent to what looks changes up.
-pub fn change_table() -> [u8; 256]
-    ensures { λ r. ⌜ r ≡ changeTable ⌝ }
-{
-    CHANGES
-}
 
 // The sign at a corner, joined to the post or not, by that of the side before it, by whether the corner is below the post, and by whether it is below the
 // side after it. As numbers, of which the compiler works on many at a time.

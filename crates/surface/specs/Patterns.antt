@@ -48,12 +48,9 @@ signsOf (suc n) k = eqb (k % 2) 1 ∷ signsOf n (k / 2)
 unfoldable pub changesIn : ℕ → ℕ
 changesIn k = changes (λ x. x) (signsOf 8 k)
 
--- the table: for each pattern the decimal digit (48 is 0) of the number of its changes
-abbrev pub digitOf : ℕ → ℕ
-digitOf k = 48 + changesIn k
-
+-- the table: for each pattern the number of its changes
 unfoldable pub changeTable : List ℕ
-changeTable = listOf digitOf 256
+changeTable = listOf changesIn 256
 
 -- the mark that a pattern tells: half as many lower runs start as there are changes
 unfoldable pub markIn : ℕ → ℕ

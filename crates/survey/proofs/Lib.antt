@@ -1,3 +1,3 @@
--- Scans of a list of marks; a block of marks stored afresh.
-pub mod Scans
-pub mod Painted
+-- What the first rows of the table leave; a block of marks stored afresh.
+mod Marked
+mod Painted

@@ -1,2 +1,2 @@
--- What the parts of a survey give each other.
-pub mod Tally
+-- What the parts of a survey and of a re-shoot share.
+pub mod Leading

@@ -1,6 +1,5 @@
 // The two calls that write marks: survey and re-shoot.
 mod redraw;
-mod tally;
 mod verdict;
 
 use marks::mark_plot;
@@ -9,6 +8,7 @@ use settings::grid_of;
 use settings::read_sheet;
 use surface::Answer;
 use surface::Counts;
+use tally::count;
 use verdict::reshoot_verdict;
 use verdict::survey_verdict;
 ghost use mathlib.Core.Path.{_≡_};
@@ -33,7 +33,7 @@ pub fn survey(sheet: &[u8], rows: u32, columns: u32, heights: &[i32], marks: &mu
     }
     let grid = grid_of(said, rows, columns);
     mark_plot(heights, grid, marks);
-    let t = tally::count(marks);
+    let t = count(marks);
     Counts {
         code: 0,
         place: 0,

@@ -1,6 +1,6 @@
 // The marks round a post, after its height changed: those of the post and of the posts that touch it by side or corner.
+use changes::change_table;
 use post::mark::mark_with;
-use post::pattern::change_table;
 use surface::Grid;
 ghost use mathlib.Core.Path.{_≡_};
 ghost use Prim.Native.Nat.{_+_, _-_, _<_, _≤_, min};

@@ -1,4 +1,3 @@
--- Laws on plain numbers and lists, for the proofs of this crate; those of a file's posts also for the callers of `posts_in`.
-mod Numbers
+-- Laws on lists, for the proofs of this crate; those of a file's posts also for the callers of `posts_in`.
 pub mod Posts
 mod Stores

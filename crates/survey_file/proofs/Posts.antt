@@ -9,7 +9,7 @@ use lib.ListN.{length, List·getD-eq-default}
 use Rattle.surface.specs.Plot.{isSide, maxPosts}
 use Rattle.surface.proofs.General.Bools.{either}
 use Rattle.surface.proofs.AnyOrder.Grid.{test-sides}
-use Rattle.surface.proofs.OfCalls.Accepted.{rowsIn, columnsIn}
+use Rattle.surface.proofs.OfCalls.FileCalls.{rowsIn, columnsIn}
 use Rattle.survey_file.specs.Layout.{leastSize, plotPosts}
 
 module _ (file : List ℕ) where

@@ -11,7 +11,7 @@ use Rattle.surface.specs.Plot.{Plot}
 use Rattle.surface.specs.Words.{unsigned, bytesOf, halfBytes}
 use Rattle.surface.specs.SurveyFile.{headerFor, filedHeights, fileOf}
 use Rattle.surface.proofs.OfPlots.SurveyFile.{length-filedHeights, filedHeights-take}
-use Rattle.surface.proofs.OfCalls.Accepted.{ForWrite}
+use Rattle.surface.proofs.OfCalls.FileCalls.{ForWrite}
 use Rattle.surface.specs.declared.Spacings.{Spacings}
 use Rattle.survey_file.specs.Layout.{written, header, heightAt}
 

@@ -1,3 +1,2 @@
 -- What the contracts of this crate cite beside those of `surface`.
 pub mod Layout
-pub mod Rounding

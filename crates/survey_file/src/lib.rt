@@ -1,7 +1,6 @@
 // Survey files (docs/SPECIFICATION.md, "Survey file"): a file to heights in whole millimetres, and heights to a file.
 mod header;
 mod reading;
-mod tenths;
 mod writing;
 
 use header::FIRST_HEADER;

@@ -2,10 +2,10 @@
 use crate::header::header_size;
 use crate::header::header_verdict;
 use crate::posts_in;
-use crate::tenths::first_out;
-use crate::tenths::round;
-use crate::tenths::tenths_at;
 use surface::Answer;
+use tenths::first_out;
+use tenths::round;
+use tenths::tenths_at;
 use words::word_at;
 ghost use mathlib.Core.Path.{_≡_};
 ghost use Prim.Native.Nat.{_≤_};
@@ -23,7 +23,8 @@ pub(crate) fn read_verdict(file: &[u8], heights: &[i32]) -> Answer
         return header;
     }
     let posts = posts_in(file);
-    let counted = header_size(file) - 5 + 4 * posts;
+    let before = header_size(file);
+    let counted = before - 5 + 4 * posts;
     let stated = word_at(file, 1) as usize;
     if (stated != file.len() - 5) | (stated != counted) {
         return Answer { code: 12, place: 0 };
@@ -31,7 +32,7 @@ pub(crate) fn read_verdict(file: &[u8], heights: &[i32]) -> Answer
     if heights.len() != posts {
         return Answer { code: 3, place: 0 };
     }
-    let post = first_out(file, posts);
+    let post = first_out(file, before, posts);
     if post < posts {
         return Answer {
             code: 4,

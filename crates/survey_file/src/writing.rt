@@ -1,11 +1,11 @@
 // Writing a survey file: whether it is turned away, and what goes into it.
 use crate::header::SECOND;
 use crate::header::SECOND_HEADER;
-use crate::tenths::filed;
 use limits::heights_verdict;
 use limits::spaced_plot_verdict;
 use surface::Answer;
 use surface::Spacings;
+use tenths::filed;
 use words::put_half;
 use words::put_word;
 ghost use mathlib.Core.Path.{_≡_};

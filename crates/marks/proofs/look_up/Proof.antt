@@ -1,10 +1,10 @@
--- The loop's invariant: c digits were stored.
+-- The loop's invariant: c numbers of changes were stored.
 use Prim.Native.Nat.{_+_, _-_, _≤_}
 use native.Mathlib.Omega.{arith}
 use mathlib.Core.Path.{_≡_, refl, _∙_}
 use lib.ListN.{length, getD, length-set}
 use Rattle.surface.specs.Lists.{stores}
-use Rattle.surface.specs.Patterns.{digitOf, changeTable}
+use Rattle.surface.specs.Patterns.{changesIn, changeTable}
 use Rattle.surface.proofs.General.ListOf.{length-listOf}
 use Rattle.surface.proofs.General.Stores.{store-next}
 use Rattle.surface.proofs.OfPlots.Patterns.{table-at}
@@ -12,32 +12,32 @@ use Rattle.marks.proofs.look_up.Statement.{statement}
 use Rattle.marks.proofs.look_up.Tie as tie
 
 abbrev Inv-loop : tie.InvT-loop
-Inv-loop table patterns at n digits₀ c₀ digits c =
-    (c ≤ n) × (length digits ≡ length digits₀) × (digits ≡ stores (λ k. digitOf (getD patterns (at + k) 0)) 0 c digits₀)
+Inv-loop table patterns at n changes₀ c₀ changes c =
+    (c ≤ n) × (length changes ≡ length changes₀) × (changes ≡ stores (λ k. changesIn (getD patterns (at + k) 0)) 0 c changes₀)
 
 abbrev μ-loop : tie.MeasureT-loop
-μ-loop table patterns at n digits₀ c₀ digits c = n - c
+μ-loop table patterns at n changes₀ c₀ changes c = n - c
 
 loop-holds : tie.Need-loop-holds Inv-loop μ-loop
 unfolding stores
 loop-holds c = (omega arith, refl, refl)
 
-cast : tie.Need-cast-digits Inv-loop μ-loop
+cast : tie.Need-cast-changes Inv-loop μ-loop
 cast c = omega (arith, c .before .before .before .pre .3 (c .before .before .loop .c) (omega arith))
 
-in-table : tie.Need-shared-slice-read-digits-2 Inv-loop μ-loop
+in-table : tie.Need-shared-slice-read-changes-2 Inv-loop μ-loop
 unfolding changeTable
 in-table c =
     let z = c .before .before .before .before in
-    rw (z .pre .0, length-listOf digitOf 256) (z .pre .3 (c .before .before .before .loop .c) (omega arith))
+    rw (z .pre .0, length-listOf changesIn 256) (z .pre .3 (c .before .before .before .loop .c) (omega arith))
 
 loop-again : tie.Need-loop-again Inv-loop μ-loop
 loop-again c =
     let l = c .before .before .before .loop in
     let z = c .before .before .before .before in (
       omega arith,
-      length-set (l .digits) _ _ ∙ l .inv .1,
-      store-next _ 0 (l .c) (l .c + 1) (l .digits) (z .args .digits .now) (l .c) _ (l .inv .2) (omega arith) refl (rw (z .pre .0) (table-at _ (z .pre .3 (l .c) (omega arith)))),
+      length-set (l .changes) _ _ ∙ l .inv .1,
+      store-next _ 0 (l .c) (l .c + 1) (l .changes) (z .args .changes .now) (l .c) _ (l .inv .2) (omega arith) refl (rw (z .pre .0) (table-at _ (z .pre .3 (l .c) (omega arith)))),
     )
 
 same-length : tie.Need-same-length Inv-loop μ-loop

@@ -15,11 +15,11 @@ abbrev told : List ℕ → ℕ → ℕ
 told marks₀ k = markIn (getD marks₀ k 0)
 
 abbrev Inv-loop : tie.InvT-loop
-Inv-loop marks₀ table digits₀ i₀ marks digits i =
-    (i ≤ length marks₀) × (length marks ≡ length marks₀) × (length digits ≡ 240) × (table ≡ changeTable) × (marks ≡ stores (told marks₀) 0 i marks₀)
+Inv-loop marks₀ table changes₀ i₀ marks changes i =
+    (i ≤ length marks₀) × (length marks ≡ length marks₀) × (length changes ≡ 240) × (table ≡ changeTable) × (marks ≡ stores (told marks₀) 0 i marks₀)
 
 abbrev μ-loop : tie.MeasureT-loop
-μ-loop marks₀ table digits₀ i₀ marks digits i = length marks₀ - i
+μ-loop marks₀ table changes₀ i₀ marks changes i = length marks₀ - i
 
 loop-holds : tie.Need-loop-holds Inv-loop μ-loop
 unfolding stores
@@ -53,7 +53,7 @@ mark-part-requires c κs =
     let d = c .before .before .before .look-up in (
       omega (arith, n, d .kept .1 .1 .1 .1 .0, l .inv .2),
       omega (arith, n, l .inv .1, i .loop-test .taken),
-      λ k h. ap (λ (m : List ℕ). getD m k 0) (d .ensures) ∙ stores-in _ 0 _ (l .digits) k 0 (omega (arith, n, l .inv .2)) (omega arith) (omega arith),
+      λ k h. ap (λ (m : List ℕ). getD m k 0) (d .ensures) ∙ stores-in _ 0 _ (l .changes) k 0 (omega (arith, n, l .inv .2)) (omega arith) (omega arith),
     )
 
 add-i : tie.Need-add-i Inv-loop μ-loop

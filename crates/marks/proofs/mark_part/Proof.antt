@@ -11,10 +11,10 @@ use Rattle.marks.proofs.mark_part.Statement.{statement}
 use Rattle.marks.proofs.mark_part.Tie as tie
 
 abbrev Inv-loop : tie.InvT-loop
-Inv-loop digits marks₀ at n c₀ marks c = (c ≤ n) × (length marks ≡ length marks₀) × (marks ≡ stores (λ k. markIn (getD marks₀ k 0)) at c marks₀)
+Inv-loop changes marks₀ at n c₀ marks c = (c ≤ n) × (length marks ≡ length marks₀) × (marks ≡ stores (λ k. markIn (getD marks₀ k 0)) at c marks₀)
 
 abbrev μ-loop : tie.MeasureT-loop
-μ-loop digits marks₀ at n c₀ marks c = n - c
+μ-loop changes marks₀ at n c₀ marks c = n - c
 
 loop-holds : tie.Need-loop-holds Inv-loop μ-loop
 unfolding stores

@@ -9,8 +9,8 @@ use Rattle.surface.specs.Lists.{stores}
 use Rattle.surface.specs.Plot.{plotOf, isOdd}
 use Rattle.surface.proofs.General.Stores.{stores-join, stores-all}
 use Rattle.surface.proofs.AnyOrder.Grid.{row-is}
-use Rattle.patterns.specs.Rows.{RowOf}
-use Rattle.patterns.proofs.Told.{row-of}
+use Rattle.flags.specs.Rows.{RowOf}
+use Rattle.flags.proofs.Beneath.{row-of}
 use Rattle.patterns.proofs.Steps.{State, head-next, row-stored}
 use borrow.Author.Needs.{needs}
 use Rattle.patterns.proofs.pattern_plot.Statement.{statement}
@@ -45,24 +45,27 @@ mul-width c = omega (arith, c .before .pre .0 .sides)
 top-row-requires : tie.Need-top-row-requires Inv-loop μ-loop
 top-row-requires c κs =
     let f = c .before .before .before .before .before .before .before .pre .0 in
-    let flags = all-alike false 130 in (
-      f,
-      record {
-        sideLong = omega (arith, f .sides);
-        southLong = omega (arith, f .sides);
-        fallLong = omega (arith, f .sides);
-        riseLong = omega (arith, f .sides);
-        underLong = omega (arith, f .sides);
-      },
-      omega arith,
-      omega (arith, f .sides),
-      record {
-        sideTrue = λ c h. all-alike true 130 c (omega (arith, f .sides));
-        southFalse = λ c h. flags c (omega (arith, f .sides));
-        fallFalse = λ c h. flags c (omega (arith, f .sides));
-        riseFalse = λ c h. flags c (omega (arith, f .sides));
-      },
-    )
+    let flags = all-alike false 130 in
+    record {
+      valid = f;
+      flags =
+          record {
+            sideLong = omega (arith, f .sides);
+            southLong = omega (arith, f .sides);
+            fallLong = omega (arith, f .sides);
+            riseLong = omega (arith, f .sides);
+            underLong = omega (arith, f .sides);
+          };
+      wide = omega arith;
+      upperLong = omega (arith, f .sides);
+      blank =
+          record {
+            sideTrue = λ c h. all-alike true 130 c (omega (arith, f .sides));
+            southFalse = λ c h. flags c (omega (arith, f .sides));
+            fallFalse = λ c h. flags c (omega (arith, f .sides));
+            riseFalse = λ c h. flags c (omega (arith, f .sides));
+          };
+    }
 
 loop-holds : tie.Need-loop-holds Inv-loop μ-loop
 unfolding stores
@@ -93,35 +96,41 @@ south-rows-requires : tie.Need-south-rows-requires Inv-loop μ-loop
 south-rows-requires c κs =
     let i = c .before .before .before .before in
     let f = start (i .before) .pre .0 in
-    let v = i .before .loop .inv in (
-      f,
-      row i,
-      ap isOdd (sym (row-is (f .sides) (i .before .loop .r) 0 (omega (arith, f .sides)) (omega arith))),
-      record {
-        southLong = omega (arith, f .sides, v .southLong);
-        fallLong = omega (arith, f .sides, v .fallLong);
-        riseLong = omega (arith, f .sides, v .riseLong);
-        underLong = omega (arith, f .sides, v .underLong);
-      },
-      v .head (i .loop-test .taken) .ends,
-    )
+    let v = i .before .loop .inv in
+    let h = v .head (i .loop-test .taken) in
+    record {
+      valid = f;
+      at = row i;
+      parity = ap isOdd (sym (row-is (f .sides) (i .before .loop .r) 0 (omega (arith, f .sides)) (omega arith)));
+      long =
+          record {
+            southLong = omega (arith, f .sides, v .southLong);
+            fallLong = omega (arith, f .sides, v .fallLong);
+            riseLong = omega (arith, f .sides, v .riseLong);
+            underLong = omega (arith, f .sides, v .underLong);
+          };
+      ends = h .ends;
+      sides = h .sides;
+    }
 
 pattern-row-requires : tie.Need-pattern-row-requires Inv-loop μ-loop
 pattern-row-requires c κs =
     let i = c .before .before .before .before .before .before .before .before .before .before .before .before .before .before .before .before in
     let v = i .before .loop .inv in
-    let s = c .before .before .before .before .before .before .before .before .before .before .before .south-rows in (
-      record {
-        sideLong = omega (arith, v .sideLong, v .narrow);
-        southLong = omega (arith, s .kept .1 .1 .1 .1 .0, v .southLong, v .narrow);
-        fallLong = omega (arith, s .kept .1 .1 .1 .1 .1 .0, v .fallLong, v .narrow);
-        riseLong = omega (arith, s .kept .1 .1 .1 .1 .1 .1 .0, v .riseLong, v .narrow);
-        underLong = omega (arith, s .kept .1 .1 .1 .1 .1 .1 .1 .0, v .underLong, v .narrow);
-      },
-      omega (arith, v .upperLong, v .narrow),
-      omega (arith, v .patternLong, v .narrow),
-      v .head (i .loop-test .taken) .low,
-    )
+    let s = c .before .before .before .before .before .before .before .before .before .before .before .south-rows in
+    record {
+      flags =
+          record {
+            sideLong = omega (arith, v .sideLong, v .narrow);
+            southLong = omega (arith, s .kept .1 .1 .1 .1 .0, v .southLong, v .narrow);
+            fallLong = omega (arith, s .kept .1 .1 .1 .1 .1 .0, v .fallLong, v .narrow);
+            riseLong = omega (arith, s .kept .1 .1 .1 .1 .1 .1 .0, v .riseLong, v .narrow);
+            underLong = omega (arith, s .kept .1 .1 .1 .1 .1 .1 .1 .0, v .underLong, v .narrow);
+          };
+      upperLong = omega (arith, v .upperLong, v .narrow);
+      patternLong = omega (arith, v .patternLong, v .narrow);
+      low = v .head (i .loop-test .taken) .low;
+    }
 
 copy-row-requires : tie.Need-copy-row-requires Inv-loop μ-loop
 copy-row-requires c κs =

@@ -15,11 +15,11 @@ use Rattle.patterns.proofs.top_row.Tie as tie
 
 is-below-by-requires : tie.Need-is-below-by-requires
 is-below-by-requires c κs =
-    let f = c .before .before .before .before .before .before .pre .0 in
+    let f = c .before .before .before .before .before .before .pre .valid in
     (f, omega (arith, row-fits (f .sides), f .sides), omega (arith, row-fits (f .sides), f .sides), sym (far-told (f .sides) 0 _ (omega arith) .second))
 
 slice-write-under-2 : tie.Need-slice-write-under-2
-slice-write-under-2 c = let z = c .before .before .before .before .before .before .before in omega (arith, z .pre .1, length-set (z .args .under .now) (z .args .grid .columns) true)
+slice-write-under-2 c = let z = c .before .before .before .before .before .before .before in omega (arith, z .pre .flags, length-set (z .args .under .now) (z .args .grid .columns) true)
 
 -- the top row starts at post 0
 first-column : {rows columns : ℕ} → Sides rows columns → column columns 0 ≡ 0
@@ -35,25 +35,27 @@ long l i x y = length-set (set l i x) 0 y ∙ length-set l i x
 east-row-requires : tie.Need-east-row-requires
 east-row-requires c κs =
     let z = c .before .before .before .before .before .before .before .before in
-    (z .pre .0, first-column (z .pre .0 .sides), first-row (z .pre .0 .sides), omega (arith, row-fits (z .pre .0 .sides)), omega (arith, long (z .args .under .now) (z .args .grid .columns) true (not (c .before .is-below-by .result)), z .pre .1, z .pre .2))
+    (z .pre .valid, first-column (z .pre .valid .sides), first-row (z .pre .valid .sides), omega (arith, row-fits (z .pre .valid .sides)), omega (arith, long (z .args .under .now) (z .args .grid .columns) true (not (c .before .is-below-by .result)), z .pre .flags, z .pre .wide))
 
 upper-row-requires : tie.Need-upper-row-requires
 upper-row-requires c κs =
-    let z = c .before .before .before .before .before .before .before .before .before .before .before .before .before .before .before .before in (
-      record {
-        sideLong = z .pre .1 .sideLong;
-        southLong = omega (arith, length-set (z .args .south .now) (z .args .grid .columns + 1) true, z .pre .1);
-        fallLong = z .pre .1 .fallLong;
-        riseLong = z .pre .1 .riseLong;
-        underLong = omega (arith, c .before .before .before .before .before .before .before .east-row .kept .1 .1 .1 .1 .0, long (z .args .under .now) (z .args .grid .columns) true (not (c .before .before .before .before .before .before .before .before .before .is-below-by .result)), z .pre .1);
-      },
-      z .pre .3,
-    )
+    let z = c .before .before .before .before .before .before .before .before .before .before .before .before .before .before .before .before in
+    record {
+      flags =
+          record {
+            sideLong = z .pre .flags .sideLong;
+            southLong = omega (arith, length-set (z .args .south .now) (z .args .grid .columns + 1) true, z .pre .flags);
+            fallLong = z .pre .flags .fallLong;
+            riseLong = z .pre .flags .riseLong;
+            underLong = omega (arith, c .before .before .before .before .before .before .before .east-row .kept .1 .1 .1 .1 .0, long (z .args .under .now) (z .args .grid .columns) true (not (c .before .before .before .before .before .before .before .before .before .is-below-by .result)), z .pre .flags);
+          };
+      upperLong = z .pre .upperLong;
+    }
 
 slice-write-under-3 : tie.Need-slice-write-under-3
 slice-write-under-3 c =
     let z = c .before .before .before .before .before .before .before .before .before .before .before .before .before .before .before .before .before .before .before in
-    omega (arith, c .before .before .before .before .before .before .before .before .before .before .east-row .kept .1 .1 .1 .1 .0, long (z .args .under .now) (z .args .grid .columns) true (not (c .before .before .before .before .before .before .before .before .before .before .before .before .is-below-by .result)), z .pre .1)
+    omega (arith, c .before .before .before .before .before .before .before .before .before .before .east-row .kept .1 .1 .1 .1 .0, long (z .args .under .now) (z .args .grid .columns) true (not (c .before .before .before .before .before .before .before .before .before .before .before .before .is-below-by .result)), z .pre .flags)
 
 same-length-4 : tie.Need-same-length-4
 same-length-4 c =
@@ -63,22 +65,22 @@ same-length-4 c =
 returns : tie.Need-returns
 returns c =
     let z = c .before .before .before .before .before .before .before .before .before .before .before .before .before .before .before .before .before .before .before in
-    top-told (z .pre .0) (z .pre .1) (z .pre .2) (z .pre .4) (rw (c .before .before .before .before .before .before .before .before .before .before .before .before .is-below-by .ensures) at (c .before .before .before .before .before .before .before .before .before .before .east-row .ensures)) (z .args .upper .now) _ (z .pre .3) (c .before .before .upper-row .ensures)
+    top-told (z .pre .valid) (z .pre .flags) (z .pre .wide) (z .pre .blank) (rw (c .before .before .before .before .before .before .before .before .before .before .before .before .is-below-by .ensures) at (c .before .before .before .before .before .before .before .before .before .before .east-row .ensures)) (z .args .upper .now) _ (z .pre .upperLong) (c .before .before .upper-row .ensures)
 
 pub top-row-spec : {M : Type 1} → statement M
 top-row-spec =
     tie.close
     (tie.spec
-    (λ c. omega (arith, c .before .before .before .before .before .before .pre .0 .sides))
-    (λ c. omega (arith, c .before .before .before .before .before .before .pre .1, c .before .before .before .before .before .before .pre .2))
-    (λ c. omega (arith, c .before .before .before .before .before .before .pre .1, c .before .before .before .before .before .before .pre .2))
+    (λ c. omega (arith, c .before .before .before .before .before .before .pre .valid .sides))
+    (λ c. omega (arith, c .before .before .before .before .before .before .pre .flags, c .before .before .before .before .before .before .pre .wide))
+    (λ c. omega (arith, c .before .before .before .before .before .before .pre .flags, c .before .before .before .before .before .before .pre .wide))
     is-below-by-requires
     slice-write-under-2
     east-row-requires
     upper-row-requires
     slice-write-under-3
-    (λ c. omega (arith, c .before .before .before .before .before .before .before .before .before .before .before .before .before .before .before .before .before .before .before .pre .1, c .before .before .before .before .before .before .before .before .before .before .before .before .before .before .before .before .before .before .before .pre .2))
-    (λ c. omega (arith, c .before .before .before .before .before .before .before .before .before .before .before .before .before .before .before .before .before .before .before .pre .1, c .before .before .before .before .before .before .before .before .before .before .before .before .before .before .before .before .before .before .before .pre .2))
+    (λ c. omega (arith, c .before .before .before .before .before .before .before .before .before .before .before .before .before .before .before .before .before .before .before .pre .flags, c .before .before .before .before .before .before .before .before .before .before .before .before .before .before .before .before .before .before .before .pre .wide))
+    (λ c. omega (arith, c .before .before .before .before .before .before .before .before .before .before .before .before .before .before .before .before .before .before .before .pre .flags, c .before .before .before .before .before .before .before .before .before .before .before .before .before .before .before .before .before .before .before .pre .wide))
     (search needs)
     (search needs)
     (search needs)

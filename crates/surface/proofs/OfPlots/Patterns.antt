@@ -11,7 +11,7 @@ use Rattle.surface.specs.Plot.{Plot, below, PostOf}
 use Rattle.surface.specs.Edges.{fallsIn, ringOf}
 use Rattle.surface.specs.Marks.{markAt}
 use Rattle.surface.specs.Flags.{signBy, pairBy, lowerBy, upperBy, eastPair, southPair, northPair, westSign, westPair}
-use Rattle.surface.specs.Patterns.{changes, changesFrom, signsAt, patternAt, signsOf, changesIn, digitOf, changeTable, markIn}
+use Rattle.surface.specs.Patterns.{changes, changesFrom, signsAt, patternAt, signsOf, changesIn, changeTable, markIn}
 use Rattle.surface.proofs.General.ListOf.{getD-listOf}
 use Rattle.surface.proofs.AnyOrder.Grid.{not-pit}
 use Rattle.surface.proofs.AnyOrder.RingEdges.{ring-other}
@@ -68,6 +68,6 @@ unfolding changesIn changes signsOf
 changesIn-le k = changesFrom-le _ (signsOf 8 k)
 
 -- the table's rule at each entry
-pub table-at : (k : ℕ) → k < 256 → getD changeTable k 0 ≡ digitOf k
+pub table-at : (k : ℕ) → k < 256 → getD changeTable k 0 ≡ changesIn k
 unfolding changeTable
-table-at k h = getD-listOf digitOf 256 k 0 h
+table-at k h = getD-listOf changesIn 256 k 0 h

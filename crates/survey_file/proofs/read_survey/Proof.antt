@@ -6,8 +6,7 @@ use borrow.Author.Needs.{needs}
 use lib.ListN.{length}
 use Rattle.surface.specs.SurveyFile.{versionIn, headerFor}
 use Rattle.surface.specs.Refusals.{readVerdict}
-use Rattle.surface.proofs.OfCalls.Accepted.{ForRead, read-valid, header-bounds}
-use Rattle.surface.proofs.OfCalls.FileCalls.{read-refused, read-kept, read-served, read-filled}
+use Rattle.surface.proofs.OfCalls.FileCalls.{ForRead, read-valid, header-bounds, read-refused, read-served, read-filled}
 use Rattle.survey_file.specs.Layout.{leastSize}
 use Rattle.survey_file.proofs.read_survey.Statement.{statement}
 use Rattle.survey_file.proofs.read_survey.Tie as tie
@@ -29,7 +28,7 @@ returns : tie.Need-returns
 returns c =
     let e = c .before .before .read-verdict .ensures in
     let n = rw e at (c .if1 .taken) in
-    (rw e (sym (read-refused _ _ n)), sym (read-kept _ _ n))
+    let r = read-refused _ _ n in (rw e (sym (r .0)), sym (r .1))
 
 read-heights-requires : tie.Need-read-heights-requires
 read-heights-requires c κs = let f = found (c .before) in let h = long (c .before) in (h .0, omega (arith, f .size, f .room))

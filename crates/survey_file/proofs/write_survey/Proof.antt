@@ -6,8 +6,7 @@ use Rattle.surface.specs.Plot.{plot}
 use Rattle.surface.specs.Spacings.{spacings}
 use Rattle.surface.specs.Refusals.{writeVerdict}
 use Rattle.surface.specs.Calls.{writeAnswer}
-use Rattle.surface.proofs.OfCalls.Accepted.{ForWrite, write-valid}
-use Rattle.surface.proofs.OfCalls.FileCalls.{write-kept, write-filled}
+use Rattle.surface.proofs.OfCalls.FileCalls.{ForWrite, write-valid, write-refused, write-filled}
 use Rattle.survey_file.proofs.Stores.{file-stored}
 use Rattle.survey_file.proofs.write_survey.Statement.{statement}
 use Rattle.survey_file.proofs.write_survey.Tie as tie
@@ -26,7 +25,7 @@ module _ (c : tie.Else1) where
 
 returns : tie.Need-returns
 unfolding writeAnswer
-returns c = let e = c .before .before .write-verdict .ensures in (e, sym (write-kept _ _ _ (rw e at (c .if1 .taken))))
+returns c = let e = c .before .before .write-verdict .ensures in (e, sym (write-refused _ _ _ (rw e at (c .if1 .taken))))
 
 write-header-requires : tie.Need-write-header-requires
 write-header-requires c κs = let g = given (c .before) in (g .valid .sides, omega (arith, g .room))

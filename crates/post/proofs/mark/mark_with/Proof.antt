@@ -1,7 +1,7 @@
 -- The pattern tells the mark.
 use mathlib.Core.Path.{sym, _∙_, ap}
 use borrow.Author.Needs.{needs}
-use Rattle.surface.specs.Patterns.{digitOf, changeTable, markIn}
+use Rattle.surface.specs.Patterns.{changesIn, changeTable, markIn}
 use Rattle.surface.proofs.General.ListOf.{length-listOf}
 use Rattle.surface.proofs.OfPlots.Patterns.{mark-in, pattern-lt, table-at}
 use Rattle.post.proofs.mark.mark_with.Statement.{statement}
@@ -14,7 +14,7 @@ read : tie.Need-shared-slice-read-mark-of
 unfolding changeTable
 read c =
     let z = c .before .before .before in
-    rw (z .pre .1, c .before .pattern-at .ensures, length-listOf digitOf 256) (pattern-lt (z .pre .0))
+    rw (z .pre .1, c .before .pattern-at .ensures, length-listOf changesIn 256) (pattern-lt (z .pre .0))
 
 mark-of-requires : tie.Need-mark-of-requires
 mark-of-requires c κs =

@@ -10,7 +10,8 @@ use Rattle.surface.specs.Flags.{eastPair}
 use Rattle.surface.proofs.AnyOrder.Grid.{east-post}
 use Rattle.surface.proofs.OfPlots.Driven.{far-told, east-told, south-told}
 use Rattle.post.proofs.Around.{both, cell-se}
-use Rattle.post.proofs.Paired.{same, as-told, paired}
+use Rattle.order.proofs.Level.{below-same}
+use Rattle.post.proofs.Paired.{as-told, paired}
 use Rattle.post.proofs.pattern.east_pair.Statement.{statement}
 use Rattle.post.proofs.pattern.east_pair.Tie as tie
 
@@ -52,7 +53,7 @@ returns c =
     let s = z .pre .0 .valid .sides in (
       c .pair .ensures .0
           ∙ rw (c .before .before .ahead3 .ensures, c .before .before .before .ahead2 .ensures, c .before .before .before .before .before .ahead .ensures, z .pre .1)
-          (paired _ (right (z .args .grid .columns) (z .args .p)) (bottom (z .args .grid .rows) (z .args .grid .columns) (z .args .p)) _ _ _ _ _ _ (λ i. same _ refl (omega arith)) (λ i j. same _ refl (omega arith)) (λ i j. same _ refl (omega arith))),
+          (paired _ (right (z .args .grid .columns) (z .args .p)) (bottom (z .args .grid .rows) (z .args .grid .columns) (z .args .p)) _ _ _ _ _ _ (λ i. below-same _ refl (omega arith)) (λ i j. below-same _ refl (omega arith)) (λ i j. below-same _ refl (omega arith))),
       c .pair .ensures .1,
     )
 

@@ -11,7 +11,8 @@ use Rattle.surface.specs.Flags.{northPair}
 use Rattle.surface.proofs.AnyOrder.Grid.{top-false, north-right, east-left}
 use Rattle.surface.proofs.OfPlots.Driven.{far-told, corner-told}
 use Rattle.post.proofs.Around.{both, cell-ne}
-use Rattle.post.proofs.Paired.{same, as-told, paired}
+use Rattle.order.proofs.Level.{below-same}
+use Rattle.post.proofs.Paired.{as-told, paired}
 use Rattle.post.proofs.pattern.north_pair.Statement.{statement}
 use Rattle.post.proofs.pattern.north_pair.Tie as tie
 
@@ -61,7 +62,7 @@ returns c =
     let s = z .pre .0 .valid .sides in (
       c .pair .ensures .0
           ∙ rw (c .before .before .back3 .ensures, c .before .before .before .back2 .ensures, c .before .before .before .before .before .back .ensures, z .pre .1)
-          (paired _ (top (z .args .grid .columns) (z .args .p)) (right (z .args .grid .columns) (z .args .p)) _ _ _ _ _ _ (λ i. same _ (omega arith) (omega arith)) (λ i j. same _ (omega (arith, s .wide, top-false s (z .args .p) .0 i)) (omega arith)) (λ i j. same _ (omega (arith, top-false s (z .args .p) .0 i)) (omega arith))),
+          (paired _ (top (z .args .grid .columns) (z .args .p)) (right (z .args .grid .columns) (z .args .p)) _ _ _ _ _ _ (λ i. below-same _ (omega arith) (omega arith)) (λ i j. below-same _ (omega (arith, s .wide, top-false s (z .args .p) .0 i)) (omega arith)) (λ i j. below-same _ (omega (arith, top-false s (z .args .p) .0 i)) (omega arith))),
       c .pair .ensures .1,
     )
 

@@ -9,7 +9,8 @@ use Rattle.surface.specs.Flags.{southPair}
 use Rattle.surface.proofs.AnyOrder.Grid.{bottom-false, not-left}
 use Rattle.surface.proofs.OfPlots.Driven.{far-told, corner-told}
 use Rattle.post.proofs.Around.{both, cell-sw}
-use Rattle.post.proofs.Paired.{same, as-told, paired}
+use Rattle.order.proofs.Level.{below-same}
+use Rattle.post.proofs.Paired.{as-told, paired}
 use Rattle.post.proofs.pattern.south_pair.Statement.{statement}
 use Rattle.post.proofs.pattern.south_pair.Tie as tie
 
@@ -54,7 +55,7 @@ returns c =
     let s = z .pre .0 .valid .sides in (
       c .pair .ensures .0
           ∙ rw (c .before .before .ahead3 .ensures, c .before .before .before .ahead2 .ensures, c .before .before .before .before .before .ahead .ensures, z .pre .1)
-          (paired _ (bottom (z .args .grid .rows) (z .args .grid .columns) (z .args .p)) (left (z .args .grid .columns) (z .args .p)) _ _ _ _ _ _ (λ i. same _ refl (omega arith)) (λ i j. same _ refl (omega (arith, s .wide))) (λ i j. same _ refl (omega (arith, s .wide, not-left s (z .args .p) j)))),
+          (paired _ (bottom (z .args .grid .rows) (z .args .grid .columns) (z .args .p)) (left (z .args .grid .columns) (z .args .p)) _ _ _ _ _ _ (λ i. below-same _ refl (omega arith)) (λ i j. below-same _ refl (omega (arith, s .wide))) (λ i j. below-same _ refl (omega (arith, s .wide, not-left s (z .args .p) j)))),
       c .pair .ensures .1,
     )
 

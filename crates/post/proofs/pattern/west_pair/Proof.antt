@@ -7,7 +7,8 @@ use Rattle.surface.specs.Flags.{westPair}
 use Rattle.surface.proofs.General.Bools.{not-not}
 use Rattle.surface.proofs.OfPlots.Driven.{far-told, north-told}
 use Rattle.post.proofs.Around.{both, cell-nw}
-use Rattle.post.proofs.Paired.{same, as-told, corner-paired}
+use Rattle.order.proofs.Level.{below-same}
+use Rattle.post.proofs.Paired.{as-told, corner-paired}
 use Rattle.post.proofs.pattern.west_pair.Statement.{statement}
 use Rattle.post.proofs.pattern.west_pair.Tie as tie
 
@@ -42,7 +43,7 @@ returns c =
     let s = z .pre .0 .valid .sides in (
       c .pair .ensures .0
           ∙ rw (c .before .before .back2 .ensures, c .before .before .before .back .ensures, c .before .before .before .before .before .west-sign .ensures, z .pre .1)
-          (corner-paired _ (left (z .args .grid .columns) (z .args .p)) (top (z .args .grid .columns) (z .args .p)) _ _ _ _ _ (λ i j. same _ (omega arith) (omega arith)) (λ i j. same _ (omega arith) (omega arith))),
+          (corner-paired _ (left (z .args .grid .columns) (z .args .p)) (top (z .args .grid .columns) (z .args .p)) _ _ _ _ _ (λ i j. below-same _ (omega arith) (omega arith)) (λ i j. below-same _ (omega arith) (omega arith))),
       c .pair .ensures .1,
     )
 

@@ -7,7 +7,8 @@ use Rattle.surface.specs.Edges.{top, bottom, left}
 use Rattle.surface.specs.Flags.{westSign}
 use Rattle.surface.proofs.AnyOrder.Grid.{bottom-false, not-left}
 use Rattle.surface.proofs.OfPlots.Driven.{far-told, west-told}
-use Rattle.post.proofs.Paired.{same, as-told, side-or}
+use Rattle.order.proofs.Level.{below-same}
+use Rattle.post.proofs.Paired.{as-told, side-or}
 use Rattle.post.proofs.pattern.west_sign.Statement.{statement}
 use Rattle.post.proofs.pattern.west_sign.Tie as tie
 
@@ -25,7 +26,7 @@ unfolding westSign
 returns c =
     let z = c .before .before .before .before .before in
     let k : top (z .args .grid .columns) (z .args .p) && left (z .args .grid .columns) (z .args .p) ≡ true = rw (z .pre .1) at (c .before .before .before .if1 .taken) in
-    rw (c .ahead .ensures, z .pre .1, k) (side-or (bottom (z .args .grid .rows) (z .args .grid .columns) (z .args .p)) _ _ (λ i. same _ refl (omega arith)))
+    rw (c .ahead .ensures, z .pre .1, k) (side-or (bottom (z .args .grid .rows) (z .args .grid .columns) (z .args .p)) _ _ (λ i. below-same _ refl (omega arith)))
 
 back-requires : tie.Need-back-requires
 back-requires c κs =
@@ -38,7 +39,7 @@ unfolding westSign
 returns-2 c =
     let z = c .before .before .before .before in
     let k = rw (z .pre .1) at (c .before .before .if1 .left) in
-    rw (c .back .ensures, z .pre .1, k) (side-or (left (z .args .grid .columns) (z .args .p)) _ _ (λ i. same _ (omega arith) (omega arith)))
+    rw (c .back .ensures, z .pre .1, k) (side-or (left (z .args .grid .columns) (z .args .p)) _ _ (λ i. below-same _ (omega arith) (omega arith)))
 
 pub west-sign-spec : {M : Type 1} → statement M
 west-sign-spec = tie.close (tie.spec add-south ahead-requires returns back-requires returns-2)

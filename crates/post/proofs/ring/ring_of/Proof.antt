@@ -2,7 +2,7 @@
 use Prim.Native.Nat.{_≤_}
 use native.Mathlib.Omega.{arith}
 use Rattle.post.specs.Rings.{ringPlaces}
-use Rattle.post.proofs.Rings.{grows, grows-end, whole}
+use Rattle.post.proofs.Rings.{grows, grows-end, holds-whole}
 use borrow.Author.Needs.{needs}
 use Rattle.post.proofs.ring.ring_of.Statement.{statement}
 use Rattle.post.proofs.ring.ring_of.Tie as tie
@@ -71,7 +71,7 @@ with-post-requires-8 c κs =
 returns : tie.Need-returns
 unfolding ringPlaces
 returns c =
-    whole _ _ (omega (arith, six (c .before .before .before), c .before .with-post7 .ensures .more, c .with-post8 .ensures .more)) (c .with-post8 .ensures .size)
+    holds-whole _ _ (omega (arith, six (c .before .before .before), c .before .with-post7 .ensures .more, c .with-post8 .ensures .more)) (c .with-post8 .ensures .size)
     (grows _ _ (c .before .before .before .before .before .before .before .before .before .before .with-post .ensures)
     (grows _ _ (c .before .before .before .before .before .before .before .before .before .with-post2 .ensures)
     (grows _ _ (c .before .before .before .before .before .before .before .with-post3 .ensures)

@@ -15,7 +15,7 @@ use Rattle.surface.specs.SurveyFile.{versionIn, statedCount, countFor, tenthsOf
 use Rattle.surface.specs.Refusals.{Row, verdict, row3, row4, row12, readVerdict}
 use Rattle.surface.proofs.General.Bools.{or-left, or-right}
 use Rattle.surface.proofs.OfPlots.SurveyFile.{length-tenthsOf}
-use Rattle.surface.proofs.OfCalls.Accepted.{rowsIn, columnsIn, postsIn, header-bounds}
+use Rattle.surface.proofs.OfCalls.FileCalls.{rowsIn, columnsIn, postsIn, header-bounds}
 use Rattle.surface.proofs.OfCalls.Verdicts.{code, passed, row-holds, row-passed, none-left, leads-refused, leads-passed}
 use Rattle.survey_file.specs.Layout.{leastSize, headerRows}
 use Rattle.survey_file.proofs.Posts.{plot-posts}
@@ -101,16 +101,16 @@ returns-2 c = sym (passed0 (e (c .before)) ∙ row-holds _ _ (tested (c .before)
 returns-3 : tie.Need-returns-3
 returns-3 c = sym (passed1 (c .before) ∙ row-holds _ _ (ap not (ne-eqb _ _ (λ z. c .if3 .taken (z ∙ sym (posts (c .before .before .before .before)))))))
 
-both : (n a b : ℕ) → not (eqb n a) || not (eqb n b) ≡ false → (n ≡ a) × (n ≡ b)
-both n a b e = (eqb-true n a (not-false _ (or-left _ _ e)), eqb-true n b (not-false _ (or-right (not (eqb n a)) _ e)))
+equal-both : (n a b : ℕ) → not (eqb n a) || not (eqb n b) ≡ false → (n ≡ a) × (n ≡ b)
+equal-both n a b e = (eqb-true n a (not-false _ (or-left _ _ e)), eqb-true n b (not-false _ (or-right (not (eqb n a)) _ e)))
 
 first-out-requires : tie.Need-first-out-requires
 first-out-requires c κs =
     let w = c .before .before in
-    let k = both (w .word-at .result) _ _ (c .before .if2 .left) in
+    let k = equal-both (w .word-at .result) _ _ (c .before .if2 .left) in
     let h = header-bounds (versionIn (F (e w))) in
     let l = long (e w) in
-    (l, omega (arith, h, l, k .0, k .1, w .before .header-size .ensures))
+    (w .before .header-size .ensures, omega (arith, h, l, k .0, k .1, w .before .header-size .ensures))
 
 returns-4 : tie.Need-returns-4
 returns-4 c = rw (out (c .before)) (sym (passed2 (c .before .before) ∙ row-holds _ _ (ranged (c .before) ∙ lt-ltb _ _ (c .if4 .taken))))

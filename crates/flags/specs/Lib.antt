@@ -1,0 +1,2 @@
+-- What rows of flags tell.
+pub mod Rows

@@ -1,0 +1,2 @@
+-- Halves by pairs, and how large they are.
+pub mod Halves

@@ -1,0 +1,2 @@
+-- The halves of patterns, by rows of flags.
+pub mod Halves

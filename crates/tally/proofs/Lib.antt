@@ -1,0 +1,2 @@
+-- Scans of a list of marks.
+mod Scans

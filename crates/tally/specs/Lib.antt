@@ -1,0 +1,2 @@
+-- What a count of marks gives.
+pub mod Tally
