@@ -30,7 +30,7 @@ use Rattle.order.proofs.Places.{number-tells, place-small, place-driven}
 use Rattle.post.specs.declared.border.Borders.{Borders}
 use Rattle.post.specs.declared.corner.Corners.{Corners}
 use Rattle.post.specs.Corners.{bordersOf}
-use Rattle.post.proofs.Around.{both}
+use Rattle.post.proofs.Around.{both-false as both}
 use Rattle.next.specs.declared.key.Block.{Block}
 use Rattle.next.specs.Scan.{inside, cells, step, scan, turn, cornersLower}
 use Rattle.next.specs.Keys.{There, keyBy, keyOf, isKey, numberIn, blockOf, cornersKept, farther, farthest, heightIn, dropIn, overtakes, steepestAmong, steepestIn, steepestOf}

@@ -5,7 +5,7 @@ use mir.Syntax.{w32}
 use mir.Val.{toZ, ofZ}
 use Rattle.surface.specs.Plot.{plotOf}
 use Rattle.surface.specs.Edges.{top, bottom, left, right}
-use Rattle.post.proofs.Around.{both}
+use Rattle.post.proofs.Around.{both-false as both}
 use Rattle.next.specs.Keys.{keyOf}
 use Rattle.next.proofs.Keyed.{bits-of, same-block}
 use Rattle.next.proofs.Nine.{own-there, n-there, ne-there, e-there, se-there, s-there, sw-there, w-there, nw-there, offsets}
