@@ -12,10 +12,10 @@ use Rattle.post.specs.declared.corner.Corners.{Corners}
 use Rattle.post.specs.Corners.{bordersOf, cornersOf, Neighbours, Cell}
 
 -- a corner whose cell is there stands off both borders
-pub both : (a b : Bool) → not a && not b ≡ true → (a ≡ false) × (b ≡ false)
-both true b h = absurd (true≢false (sym h))
-both false true h = absurd (true≢false (sym h))
-both false false h = (refl, refl)
+pub both-false : (a b : Bool) → not a && not b ≡ true → (a ≡ false) × (b ≡ false)
+both-false true b h = absurd (true≢false (sym h))
+both-false false true h = absurd (true≢false (sym h))
+both-false false false h = (refl, refl)
 
 -- corners are joined across a diagonal that rises, or along one that falls, where the cell is there
 rises-there : (a b c : Bool) → not a && not b && not (not a && not b && c) ≡ not a && (not b && not c)
@@ -62,25 +62,25 @@ module _ {rows columns : ℕ} (s : Sides rows columns) (p : ℕ) (post : p < row
   -- the cells round p that are there have their four posts in the plot
   pub cell-ne : not (top columns p) && not (right columns p) ≡ true → Cell rows columns p columns
   cell-ne k =
-      let h = both (top columns p) (right columns p) k in
+      let h = both-false (top columns p) (right columns p) k in
       let n = top-false s p .0 (h .0) in
       record { from = n; posts = omega (arith, east-post s p post (h .1)); inner = north-right s p (h .0) ∙ h .1 }
 
   pub cell-se : not (right columns p) && not (bottom rows columns p) ≡ true → Cell rows columns p 0
   cell-se k =
-      let h = both (right columns p) (bottom rows columns p) k in
+      let h = both-false (right columns p) (bottom rows columns p) k in
       let e : p - 0 ≡ p = omega arith in
       record { from = omega arith; posts = omega (arith, south-east (h .0) (h .1)); inner = rw e (h .0) }
 
   pub cell-sw : not (bottom rows columns p) && not (left columns p) ≡ true → Cell rows columns p 1
   cell-sw k =
-      let h = both (bottom rows columns p) (left columns p) k in
+      let h = both-false (bottom rows columns p) (left columns p) k in
       let w = not-left s p (h .1) in
       record { from = w; posts = omega (arith, bottom-false s p post .0 (h .0)); inner = west-right s p (h .1) }
 
   pub cell-nw : not (left columns p) && not (top columns p) ≡ true → Cell rows columns p (columns + 1)
   cell-nw k =
-      let h = both (left columns p) (top columns p) k in
+      let h = both-false (left columns p) (top columns p) k in
       let n = north-west (h .0) (h .1) in
       let e : p - (columns + 1) ≡ p - columns - 1 = omega arith in
       record { from = n; posts = omega arith; inner = rw e (west-right s (p - columns) (north-left s p (h .1) ∙ h .0)) }

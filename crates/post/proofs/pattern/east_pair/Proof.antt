@@ -9,7 +9,7 @@ use Rattle.surface.specs.Edges.{bottom, right}
 use Rattle.surface.specs.Flags.{eastPair}
 use Rattle.surface.proofs.AnyOrder.Grid.{east-post}
 use Rattle.surface.proofs.OfPlots.Driven.{far-told, east-told, south-told}
-use Rattle.post.proofs.Around.{both, cell-se}
+use Rattle.post.proofs.Around.{both-false, cell-se}
 use Rattle.order.proofs.Level.{below-same}
 use Rattle.post.proofs.Paired.{as-told, paired}
 use Rattle.post.proofs.pattern.east_pair.Statement.{statement}
@@ -44,7 +44,7 @@ ahead-requires-3 c κs =
     let z = c .before .before .before .before .before .before .before in
     let s = z .pre .0 .valid .sides in
     rw (z .pre .1)
-    (z .pre .0 .valid, λ h. (omega (arith, cell-se s (z .args .p) (z .pre .0 .post) h .posts), omega arith, ap not (z .pre .2) ∙ as-told _ _ _ (south-told s (z .args .p) (both (right (z .args .grid .columns) (z .args .p)) (bottom (z .args .grid .rows) (z .args .grid .columns) (z .args .p)) h .0) .first) refl (omega arith)))
+    (z .pre .0 .valid, λ h. (omega (arith, cell-se s (z .args .p) (z .pre .0 .post) h .posts), omega arith, ap not (z .pre .2) ∙ as-told _ _ _ (south-told s (z .args .p) (both-false (right (z .args .grid .columns) (z .args .p)) (bottom (z .args .grid .rows) (z .args .grid .columns) (z .args .p)) h .0) .first) refl (omega arith)))
 
 returns : tie.Need-returns
 unfolding eastPair

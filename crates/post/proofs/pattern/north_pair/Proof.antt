@@ -10,7 +10,7 @@ use Rattle.surface.specs.Edges.{left, right, top}
 use Rattle.surface.specs.Flags.{northPair}
 use Rattle.surface.proofs.AnyOrder.Grid.{top-false, north-right, east-left}
 use Rattle.surface.proofs.OfPlots.Driven.{far-told, corner-told}
-use Rattle.post.proofs.Around.{both, cell-ne}
+use Rattle.post.proofs.Around.{both-false, cell-ne}
 use Rattle.order.proofs.Level.{below-same}
 use Rattle.post.proofs.Paired.{as-told, paired}
 use Rattle.post.proofs.pattern.north_pair.Statement.{statement}
@@ -41,7 +41,7 @@ back-requires-2 c κs =
       z .pre .0 .valid,
       λ h.
           let n = cell-ne s p (z .pre .0 .post) h in
-          let b = both _ _ h in
+          let b = both-false _ _ h in
           (z .pre .0 .post, omega (arith, n), as-told _ (p + 1 - k) p (corner-told s (p + 1 - k) p (not-first s p (b .0) (b .1)) (omega (arith, n)) .first) (omega (arith, n, s .wide)) (omega arith)),
     )
 

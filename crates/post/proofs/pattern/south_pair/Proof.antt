@@ -8,7 +8,7 @@ use Rattle.surface.specs.Edges.{bottom, left}
 use Rattle.surface.specs.Flags.{southPair}
 use Rattle.surface.proofs.AnyOrder.Grid.{bottom-false, not-left}
 use Rattle.surface.proofs.OfPlots.Driven.{far-told, corner-told}
-use Rattle.post.proofs.Around.{both, cell-sw}
+use Rattle.post.proofs.Around.{both-false, cell-sw}
 use Rattle.order.proofs.Level.{below-same}
 use Rattle.post.proofs.Paired.{as-told, paired}
 use Rattle.post.proofs.pattern.south_pair.Statement.{statement}
@@ -39,7 +39,7 @@ ahead-requires-2 c κs =
     let p = z .args .p in
     let k = z .args .grid .columns in
     rw (z .pre .1)
-    (z .pre .0 .valid, λ h. (omega (arith, cell-sw s p (z .pre .0 .post) h), omega (arith, s .wide), as-told _ (p + k - 1) p (corner-told s p (p + k - 1) (both (bottom (z .args .grid .rows) k p) (left k p) h .1) (omega (arith, s .wide)) .second) refl (omega (arith, s .wide))))
+    (z .pre .0 .valid, λ h. (omega (arith, cell-sw s p (z .pre .0 .post) h), omega (arith, s .wide), as-told _ (p + k - 1) p (corner-told s p (p + k - 1) (both-false (bottom (z .args .grid .rows) k p) (left k p) h .1) (omega (arith, s .wide)) .second) refl (omega (arith, s .wide))))
 
 ahead-requires-3 : tie.Need-ahead-requires-3
 ahead-requires-3 c κs =

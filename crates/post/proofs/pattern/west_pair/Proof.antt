@@ -6,7 +6,7 @@ use Rattle.surface.specs.Edges.{left, top}
 use Rattle.surface.specs.Flags.{westPair}
 use Rattle.surface.proofs.General.Bools.{not-not}
 use Rattle.surface.proofs.OfPlots.Driven.{far-told, north-told}
-use Rattle.post.proofs.Around.{both, cell-nw}
+use Rattle.post.proofs.Around.{both-false, cell-nw}
 use Rattle.order.proofs.Level.{below-same}
 use Rattle.post.proofs.Paired.{as-told, corner-paired}
 use Rattle.post.proofs.pattern.west_pair.Statement.{statement}
@@ -32,7 +32,7 @@ back-requires-2 c κs =
     rw (z .pre .1) (
       z .pre .0 .valid,
       λ h.
-          let b = both _ _ h in
+          let b = both-false _ _ h in
           (z .pre .0 .post, omega (arith, cell-nw s (z .args .p) (z .pre .0 .post) h .from), z .pre .2 ∙ as-told _ _ _ (north-told s (z .args .p) (b .0) (b .1) .second ∙ not-not _) refl refl),
     )
 
