@@ -16,7 +16,6 @@ use Rattle.surface.specs.Calls.{lineAnswer, lineList}
 use Rattle.surface.specs.declared.Answer.{Answer}
 use Rattle.surface.specs.declared.Entries.{Entries}
 use Rattle.surface.specs.declared.Spacings.{Spacings}
-use Rattle.surface.proofs.AnyOrder.RunMembers.{runs-run}
 use Rattle.surface.proofs.AnyOrder.Walks.{Falling, line-falls}
 use Rattle.surface.proofs.OfCalls.Accepted.{SheetPasses}
 use Rattle.surface.proofs.OfCalls.Verdicts.{code, passed, row-holds, row-passed, none-left, leads-refused, leads-passed}
@@ -93,14 +92,9 @@ module _ (pl : Plot) (s : Spacings) (d : Descent) (post run : ℕ) (list : List 
             past-8 ∙ row-passed _ _ (le-ltb (length list) (length entries) (omega (arith, long))) ∙ none-left in
             (rw (e, is-line), rw (e, is-line) (rw zero-add at (sets-eq (post ∷ way) list 0 (omega (arith, long)))))
 
--- where the line of a run goes to is a vertex, and its walk has at most as many entries as there are posts
+-- the walk from where the line of a run goes to has at most as many entries as there are posts
 module _ {n : ℕ} {d : Descent} (law : Falling n d) {post run q : ℕ} (h : post < n) (has : run < length (runsOf d post))
     (goes : q ≡ lineStart d post run) where
-  pub start-vertex : Vertex n q
-  start-vertex =
-      let r = runs-run (λ q. d .lower q post) (d .ring post) run has in
-      rw goes (law .ringVertex post _ h (r .member _ (law .picksMember post (r .some) _ (r .there)) .0))
-
   pub start-short : length (walk d n q) ≤ n
   unfolding line
   start-short = let f = line-falls law post run h has in rw goes (omega (arith, f .2 .bound, ap length (f .1)))

@@ -1,7 +1,5 @@
 // docs/SPECIFICATION.md, "Lines, dales and hills": next down and next up from a post, and the lines of a saddle.
 mod line;
-pub mod run;
-mod slope;
 mod walk;
 
 use limits::post_verdict;

@@ -1,10 +1,10 @@
 // The line of a saddle and a run: walked to write its entries, and before that to count them where the list may be too short.
-use crate::run::line_start;
 use crate::walk::Walk;
 use crate::walk::entries_of;
 use limits::post_verdict;
 use post::mark::mark_at;
 use post::ring::ring_at;
+use runs::line_start;
 use settings::read_sheet;
 use surface::Entries;
 use surface::Grid;

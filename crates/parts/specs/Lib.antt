@@ -1,3 +1,2 @@
--- What the functions below the call promise each other: lists filled with next posts, and the paths that such a list makes.
+-- What the functions below the call promise each other: lists filled with next posts.
 pub mod Filled
-pub mod Paths

@@ -1,7 +1,6 @@
 // docs/SPECIFICATION.md, "Lines, dales and hills": the dales and hills of a plot. Both lists are filled with next posts, and the paths that these make
 // are then shortened to their ends.
 mod fill;
-mod paths;
 
 use fill::fill_nexts;
 use limits::heights_verdict;

@@ -14,7 +14,8 @@ use Rattle.surface.proofs.OfCalls.Accepted.{next-valid}
 use Rattle.lines.specs.declared.walk.Walk.{Walk}
 use Rattle.lines.specs.Walks.{WalkOf, path}
 use Rattle.lines.proofs.Walking.{path-low}
-use Rattle.lines.proofs.Called.{no-saddle, no-run, too-long, drawn, start-vertex, start-short}
+use Rattle.runs.proofs.Ringed.{start-vertex}
+use Rattle.lines.proofs.Called.{no-saddle, no-run, too-long, drawn, start-short}
 use borrow.Author.Needs.{needs}
 use Rattle.lines.proofs.line.draw_from.Statement.{statement}
 use Rattle.lines.proofs.line.draw_from.Tie as tie

@@ -25,7 +25,7 @@ returns c =
     let read = then .before .before in
     let s = start read in
     let a = s .args in
-    begins-refused _ (a .dales .now) (a .hills .now) _
+    begins-refused _ (a .marks .now) (a .dales .now) (a .hills .now) _
     (file-refuses (a .sheet .now) (a .file .now) (a .heights .now) (s .pre .0 .heightsSize) (read .read-survey .result) (read .read-survey .ensures .0) (then .if1 .taken))
     (c .before .before .put-refusal .ensures)
 
@@ -53,12 +53,13 @@ returns-2 c =
     begins-accepted (a .sheet .now) (a .file .now) (a .heights .now) (s .pre .0 .heightsSize) (read .read-survey .result) (read .read-survey .ensures .0)
     (eqb (a .said .rule) 2)
     (said-means (a .sheet .now) (a .said) (s .pre .2) (s .pre .3))
-    _ (a .marks .now) (a .dales .now) (a .hills .now) _ _ (a .out .now) _
+    _ (a .marks .now) (a .dales .now) (a .hills .now) _ _ _ (a .out .now) _
     (marked .survey .result)
     (c .before .before .put-head .result)
     (else .if1 .left)
     (read .read-survey .ensures .1)
     (marked .survey .ensures .0)
+    (marked .survey .ensures .1)
     (parts .dales-and-hills .ensures .1 .0)
     (parts .dales-and-hills .ensures .1 .1)
     (s .pre .0)
