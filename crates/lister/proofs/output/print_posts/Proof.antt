@@ -15,10 +15,10 @@ abbrev μ-loop : tie.MeasureT-loop
 μ-loop heights grid spacings marks dales hills buffer₀ posts post₀ buffer post = posts - post
 
 mul-posts : tie.Need-mul-posts Inv-loop μ-loop
-mul-posts c = omega (arith, c .before .before .before .before .pre .0 .valid .sides)
+mul-posts c = omega (arith, c .before .before .before .before .before .pre .0 .valid .sides)
 
 put-posts-requires : tie.Need-put-posts-requires Inv-loop μ-loop
-put-posts-requires c κs = (c .before .before .before .before .before .before .before .pre .0, c .before .before .loop .inv .1, omega (arith, c .before .before .before .before .before .before .before .pre .1, c .before .before .loop .inv .2))
+put-posts-requires c κs = (c .before .before .before .before .before .before .before .before .pre .0, c .before .before .loop .inv .1, omega (arith, c .before .before .before .before .before .before .before .before .pre .1, c .before .before .loop .inv .2))
 
 slice-aggregate-write-all : tie.Need-slice-aggregate-write-all Inv-loop μ-loop
 slice-aggregate-write-all c = sym (length-take-le _ _ (c .before .before .before .put-posts .ensures .room))
