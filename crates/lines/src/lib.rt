@@ -4,7 +4,6 @@ mod walk;
 
 use limits::post_verdict;
 use line::draw_line;
-use next::step::next_at;
 use settings::read_sheet;
 use surface::DOWN;
 use surface::Entries;
@@ -14,6 +13,7 @@ use surface::Next;
 use surface::Sheet;
 use surface::Spacings;
 use surface::UP;
+use walk::Walk;
 ghost use mathlib.Core.Path.{_≡_};
 ghost use Rattle.surface.specs.Lines.{toward, spacings};
 ghost use Rattle.surface.specs.Calls.{plotSaid, plotBy, nextAnswer, nextDownAnswer, nextUpAnswer, thalwegAnswer, thalwegList, ridgeAnswer, ridgeList};
@@ -43,10 +43,14 @@ fn next_post(
         columns: columns as usize,
         highest: said.rule == HIGHEST_RULE,
     };
+    let ahead = Walk {
+        post: post as usize,
+        up,
+    }.next(heights, grid, spacings);
     Next {
         code: 0,
         place: 0,
-        post: next_at(heights, grid, spacings, post as usize, up) as u32,
+        post: ahead.post as u32,
     }
 }
 

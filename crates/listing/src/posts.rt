@@ -111,7 +111,17 @@ pub fn put_posts(
     let mut post = from;
     let mut bytes = 0;
     while (post < posts) & (bytes <= last) {
-        bytes = put_post(heights, grid, spacings, marks, dales, hills, post, out, bytes);
+        bytes = put_post(
+            heights,
+            grid,
+            spacings,
+            marks,
+            dales,
+            hills,
+            post,
+            out,
+            bytes,
+        );
         post += 1;
     }
     Put { post, bytes }

@@ -81,14 +81,7 @@ pub fn put_head(
 }
 
 // A water line, letter T, or a crest line, letter R: its saddle, run and end.
-pub fn put_line(
-    buffer: &mut [u8],
-    at: usize,
-    letter: u8,
-    saddle: u32,
-    run: u32,
-    end: u32,
-) -> usize
+pub fn put_line(buffer: &mut [u8], at: usize, letter: u8, saddle: u32, run: u32, end: u32) -> usize
     requires { ⌜ at + lineRoom ≤ length (now buffer) ⌝ }
     ensures { λ r. ⌜ Wrote lineRoom (now (buffer .entry)) (now (buffer .exit)) at (textLine letter (decimal saddle ∷ decimal run ∷ endName end ∷ [])) r ⌝ }
 {

@@ -1,4 +1,4 @@
--- Refused by the rows that lead, or the step from a post.
+-- Refused by the rows that lead, or the step of a walk from the post.
 use native.Mathlib.Omega.{arith}
 use mathlib.Core.Path.{_≡_, sym, _∙_, ap}
 use mathlib.Core.Logic.{inl}
@@ -12,6 +12,7 @@ use Rattle.surface.proofs.AnyOrder.Walks.{next-vertex}
 use Rattle.surface.proofs.OfPlots.Instance.{toward-falling}
 use Rattle.surface.proofs.OfCalls.Verdicts.{code}
 use Rattle.surface.proofs.OfCalls.Accepted.{plain, plot-ruled, next-valid}
+use Rattle.lines.specs.declared.walk.Walk.{Walk}
 use Rattle.lines.proofs.Called.{post-sheet, all-passed}
 use borrow.Author.Needs.{needs}
 use Rattle.lines.proofs.next_post.Statement.{statement}
@@ -37,19 +38,20 @@ post c = next-valid (plain (asked c)) _ _ (served c)
 returns : tie.Need-returns
 returns c = rw (← (c .before .before .post-verdict .ensures), ne-eqb _ 0 (c .if1 .taken))
 
-next-at-requires : tie.Need-next-at-requires
-next-at-requires c κs = post (c .before)
+-- a walk from the post
+next-requires : tie.Need-next-requires
+next-requires c κs = let k = post (c .before) in record { valid = k .0 .valid; spaced = k .1; vertex = inl (k .0 .post) }
 
-cast-t13 : tie.Need-cast-t13
-cast-t13 c =
-    let e = c .before .before in
+cast-t15 : tie.Need-cast-t15
+cast-t15 c =
+    let e = c .before .before .before in
     let valid = post e .0 in
     let a = e .before .before .before .args in
     let law = toward-falling (plain (asked e)) (valid .valid .sides) (a .spacings) (a .up) in
-    omega (arith, c .next-at .ensures, vertex-low (valid .valid .sides) (next-vertex law (a .post) (inl (valid .post))))
+    omega (arith, ap (λ (w : Walk). w .post) (c .before .next .ensures), vertex-low (valid .valid .sides) (next-vertex law (a .post) (inl (valid .post))))
 
 returns-2 : tie.Need-returns-2
-returns-2 c = let e = c .before .before in rw (same e) (rw (all-passed (plain (asked e)) _ _ (served e), c .next-at .ensures))
+returns-2 c = let e = c .before .before .before in rw (same e) (rw (all-passed (plain (asked e)) _ _ (served e), c .before .next .ensures))
 
 pub next-post-spec : {M : Type 1} → statement M
-next-post-spec = tie.close (tie.spec (search needs) returns next-at-requires cast-t13 returns-2)
+next-post-spec = tie.close (tie.spec (search needs) returns next-requires cast-t15 returns-2)
