@@ -14,7 +14,7 @@ use Rattle.surface.specs.Edges.{lowerOf, throughLowest, lowest, Place, place, t
 use Rattle.surface.specs.Lines.{Spaced, next, toward}
 use Rattle.surface.specs.declared.Spacings.{Spacings}
 use Rattle.surface.specs.Flags.{flipped}
-use Rattle.surface.proofs.General.Bools.{either, or-left, or-right}
+use Rattle.surface.proofs.General.Bools.{either}
 use Rattle.surface.proofs.AnyOrder.Grid.{top-false, not-left}
 use Rattle.surface.proofs.AnyOrder.Locality.{read-agree}
 use Rattle.surface.proofs.AnyOrder.Order.{StrictTotal}
@@ -23,10 +23,11 @@ use Rattle.post.specs.Corners.{bordersOf, cornersOf}
 use Rattle.post.specs.declared.border.Borders.{Borders}
 use Rattle.post.specs.declared.corner.Corners.{Corners}
 use Rattle.post.proofs.Around.{north-west}
-use Rattle.next.specs.Scan.{inside, cells, step, scan, turn, cornersLower}
+use Rattle.keys.specs.Keys.{cells}
+use Rattle.next.specs.Scan.{step, scan, turn, cornersLower}
 use Rattle.next.proofs.Onward.{onward, onward-strict, onward-own}
 use Rattle.next.proofs.Scanned.{to-front, next-is, toward-strict}
-use Rattle.next.proofs.Nine.{n-there, ne-there, e-there, se-there, s-there, sw-there, w-there, nw-there}
+use Rattle.keys.proofs.Nine.{n-there, ne-there, e-there, se-there, s-there, sw-there, w-there, nw-there}
 use Rattle.next.proofs.Distances.{nearer-ahead}
 
 -- a scan, in any order
@@ -394,20 +395,3 @@ module _ {pl : Plot} {p : ℕ} (post : PostOf pl p) where
         go true false e = corners-above (below pl) (toward-strict false pl) pl.columns p wide (ahead true) (ahead-strict true) at north west corner (fallsIn pl) (cut false e) (own true)
         go false true e = corners-above (reversed (below pl)) (toward-strict true pl) pl.columns p wide (ahead false) (ahead-strict false) at north west corner (fallsIn pl) (cut true e) (own false)
         go false false e = every-corner (below pl) (toward-strict false pl) pl.columns p wide (ahead false) (ahead-strict false) at north west corner (fallsIn pl) (cut false e) (hides false)
-
-  -- on no border
-  pub record Off : Type 0 where
-    pub top : top pl.columns p ≡ false
-    pub right : right pl.columns p ≡ false
-    pub bottom : bottom pl.rows pl.columns p ≡ false
-    pub left : left pl.columns p ≡ false
-
-  module _ (border : isBorder pl.rows pl.columns p ≡ false) where
-    pub off-borders : Off
-    off-borders =
-        let r = or-right (top pl.columns p) _ border in
-        let b = or-right (right pl.columns p) _ r in
-        record { top = or-left _ _ border; right = or-left _ _ r; bottom = or-left _ _ b; left = or-right (bottom pl.rows pl.columns p) _ b }
-
-    pub inside-at : at ≡ inside
-    inside-at = rw (off-borders .top, off-borders .right, off-borders .bottom, off-borders .left)

@@ -1,0 +1,2 @@
+-- Keys, and what is told of a post by those round it.
+pub mod Keys
