@@ -1,5 +1,3 @@
--- The nine posts; keys as numbers, and the heights that they tell; the comparisons as the code does them.
+-- The nine posts round a post; keys as numbers.
 pub mod Nine
 pub mod KeyNumbers
-pub mod KeyHeights
-pub mod Products

@@ -1,2 +1,2 @@
--- Keys, and what is told of a post by those round it.
+-- What the keys round a post are, and what one tells.
 pub mod Keys

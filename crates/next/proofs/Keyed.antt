@@ -29,7 +29,8 @@ use Rattle.post.specs.Corners.{bordersOf}
 use Rattle.post.proofs.Around.{both}
 use Rattle.keys.specs.declared.Block.{Block}
 use Rattle.next.specs.Scan.{step, scan, turn, cornersLower}
-use Rattle.keys.specs.Keys.{There, inside, cells, keyOf, isKey, numberIn, blockOf, cornersKept, farther, farthest, dropIn, overtakes, steepestAmong, steepestIn, steepestOf}
+use Rattle.keys.specs.Keys.{There, inside, cells, keyOf, isKey, numberIn, blockOf}
+use Rattle.steepest.specs.Slopes.{cornersKept, farther, farthest, dropIn, overtakes, steepestAmong, steepestIn, steepestOf}
 use Rattle.next.proofs.Onward.{fallTo, onward, onward-strict}
 use Rattle.next.proofs.Scanned.{to-front, scan-joins, scan-low, AllIn, all-in, scan-holds, scan-agree, toward-strict}
 use Rattle.next.proofs.Distances.{lengthAt, length-stands, Group, group-agree}

@@ -5,11 +5,11 @@
 // joined to it exactly where both sides of their cell are above the post too, since the diagonal goes through the lowest of the four. Where they go through
 // the highest posts, up and down change places.
 use keys::post_of;
-use keys::steepest_inside;
-use keys::steepest_up;
 use order::is_odd_row;
 use post::border::borders_of;
 use post::border::is_border;
+use steepest::steepest_inside;
+use steepest::steepest_up;
 use surface::Grid;
 use surface::Spacings;
 use surface::VIRTUAL_PIT;

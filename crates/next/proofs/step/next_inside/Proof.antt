@@ -6,7 +6,7 @@ use Rattle.surface.specs.Plot.{Plot, plotOf}
 use Rattle.surface.specs.Lines.{Spaced, next, toward}
 use Rattle.surface.specs.declared.Spacings.{Spacings}
 use Rattle.surface.proofs.OfPlots.Steepest.{unit-spaced, toward-even}
-use Rattle.keys.specs.Keys.{reduced}
+use Rattle.steepest.specs.Slopes.{reduced}
 use Rattle.keys.proofs.KeyNumbers.{bits-of}
 use Rattle.next.proofs.Keyed.{Tells, inside-told}
 use Rattle.next.proofs.step.next_inside.Statement.{statement}

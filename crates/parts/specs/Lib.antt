@@ -1,2 +1,0 @@
--- What the functions below the call promise each other: lists filled with next posts.
-pub mod Filled
