@@ -8,7 +8,7 @@ use mathlib.Core.List.{List, [], _∷_, _++_}
 use borrow.Author.Tests.{ne-eqb, lt-ltb, le-ltb}
 use lib.ListN.{length}
 use lib.Seq.{sets, sets-eq}
-use Rattle.surface.specs.Plot.{Plot, posts, isHeight, Vertex}
+use Rattle.surface.specs.Plot.{Plot, posts, isHeight}
 use Rattle.surface.specs.Marks.{markAt}
 use Rattle.surface.specs.Lines.{Descent, walk, runsOf, lineStart, line}
 use Rattle.surface.specs.Refusals.{Row, accepted, verdict, leadingSpaced, nextVerdict, lineVerdict, row4, row5, row7, row8, row9}

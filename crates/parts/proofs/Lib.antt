@@ -1,4 +1,3 @@
--- Laws of lists of next posts: how they are filled, and where the paths that they make end; and of the call's outcome.
-pub mod Filled
+-- Where the paths that lists of next posts make end; the call's outcome.
 pub mod Descents
 pub mod Outcome

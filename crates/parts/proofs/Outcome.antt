@@ -15,7 +15,7 @@ use Rattle.surface.proofs.General.FirstNot.{ranged-all}
 use Rattle.surface.proofs.AnyOrder.Grid.{test-sides}
 use Rattle.surface.proofs.OfCalls.Verdicts.{passed, row-holds, row-passed, leads-refused, leads-passed}
 use Rattle.surface.proofs.OfCalls.Accepted.{SheetPasses, row15-spaced, spaced-sized}
-use Rattle.parts.specs.Filled.{ForParts}
+use Rattle.nexts.specs.Filled.{ForNexts}
 
 module _ (pl : Plot) (s : Spacings) (dales hills : List ℕ) where
   pub size-refused : (verdict (leadingSpaced pl s) .code ≡ 0 → ⊥) → partsVerdict pl s dales hills ≡ verdict (leadingSpaced pl s)
@@ -44,7 +44,7 @@ module _ (pl : Plot) (s : Spacings) (dales hills : List ℕ) where
   unfolding partsVerdict
   parts-sheet e = let row = passed _ tt e in (row 13, row 14)
 
-  pub parts-valid : partsVerdict pl s dales hills .code ≡ 0 → ForParts pl s dales hills
+  pub parts-valid : partsVerdict pl s dales hills .code ≡ 0 → ForNexts pl s true dales hills
   unfolding partsVerdict
   parts-valid e =
       let row = passed _ tt e in
@@ -56,8 +56,8 @@ module _ (pl : Plot) (s : Spacings) (dales hills : List ℕ) where
               inRange = ranged-all isHeight pl.heights (row 4);
             };
         spaced = row15-spaced s (row 15);
-        dalesSize = eqb-true _ _ (not-false _ (or-left (isNot dales (posts pl)) _ (row 3)));
-        hillsSize = eqb-true _ _ (not-false _ (or-right (isNot dales (posts pl)) _ (row 3)));
+        downsSize = eqb-true _ _ (not-false _ (or-left (isNot dales (posts pl)) _ (row 3)));
+        upsSize = λ _. eqb-true _ _ (not-false _ (or-right (isNot dales (posts pl)) _ (row 3)));
       }
 
   -- a refused call leaves the lists, and an accepted one fills them

@@ -1,10 +1,8 @@
 // docs/SPECIFICATION.md, "Lines, dales and hills": the dales and hills of a plot. Both lists are filled with next posts, and the paths that these make
 // are then shortened to their ends.
-mod fill;
-
-use fill::fill_nexts;
 use limits::heights_verdict;
 use limits::spaced_verdict;
+use nexts::fill_nexts;
 use paths::shorten;
 use settings::read_sheet;
 use surface::Answer;
@@ -68,7 +66,7 @@ pub fn dales_and_hills(
         columns: columns as usize,
         highest: said.rule == HIGHEST_RULE,
     };
-    fill_nexts(heights, grid, spacings, dales, hills);
+    fill_nexts(heights, grid, spacings, true, dales, hills);
     shorten(dales, grid, DOWN);
     shorten(hills, grid, UP);
     answer

@@ -2,11 +2,13 @@
 use Prim.Native.Nat.{_+_, _-_, _≤_}
 use native.Mathlib.Omega.{arith}
 use mathlib.Core.Path.{_≡_, sym}
+use mathlib.Core.Logic.{⊎-elim}
+use lib.ListN.{set}
 use Rattle.surface.specs.Plot.{plotOf, virtualPit, PostOf}
 use Rattle.surface.specs.Lines.{next, down}
 use Rattle.surface.proofs.OfPlots.Instance.{border-drains}
 use Rattle.nexts.specs.Filled.{ForNexts, NextsFilled}
-use Rattle.nexts.proofs.Filled.{next-fits, filled-none, filled-more, filled-lists, downs-long, ups-long}
+use Rattle.nexts.proofs.Filled.{next-fits, filled-none, filled-both, filled-one, filled-lists, downs-long, ups-long}
 use Rattle.nexts.proofs.fill_border.Statement.{statement}
 use Rattle.nexts.proofs.fill_border.Tie as tie
 
@@ -43,16 +45,16 @@ slice-write-downs : tie.Need-slice-write-downs Inv-loop μ-loop
 slice-write-downs c = omega (arith, post c .post, lent (c .before) .downsSize)
 
 next-up-anywhere-requires : tie.Need-next-up-anywhere-requires Inv-loop μ-loop
-next-up-anywhere-requires c κs = (post c, lent (c .before) .spaced)
+next-up-anywhere-requires c κs = (post (c .before), lent (c .before .before) .spaced)
 
 cast-ups : tie.Need-cast-ups Inv-loop μ-loop
-cast-ups c = omega (arith, c .next-up-anywhere .ensures, next-fits (post (c .before)) (start (c .before .before) .args .spacings))
+cast-ups c = omega (arith, c .next-up-anywhere .ensures, next-fits (post (c .before .before)) (start (c .before .before .before) .args .spacings))
 
 mul-ups : tie.Need-mul-ups Inv-loop μ-loop
-mul-ups c = omega (arith, post (c .before) .post, post (c .before) .valid .sides)
+mul-ups c = omega (arith, post (c .before .before) .post, post (c .before .before) .valid .sides)
 
 slice-write-ups : tie.Need-slice-write-ups Inv-loop μ-loop
-slice-write-ups c = omega (arith, post (c .before) .post, lent (c .before .before) .upsSize)
+slice-write-ups c = omega (arith, post (c .before .before) .post, lent (c .before .before .before) .upsSize (c .before .if1 .taken))
 
 -- a border post drains to the virtual pit
 drained : (c : tie.In-loop Inv-loop μ-loop)
@@ -63,8 +65,18 @@ drained c =
     let s = start (c .before) in
     sym (border-drains _ (post c .valid .sides) (s .args .spacings) _ (post c .post) (s .pre .1 (c .before .loop .i) (c .loop-test .taken)))
 
+-- after a turn: one post more in the first list and, where both are filled, in the second
+turned : (c : tie.Joined1 Inv-loop μ-loop)
+    → let l = c .before .before in
+    let a = start l .args in
+    NextsFilled (plotOf (a .grid) (a .heights .now)) (a .spacings) (a .both) (a .from) (l .loop .i + 1) (a .downs .now) (a .ups .now) (set (l .loop .downs) (a .from + l .loop .i) 65535) (c .if1 .ups)
+turned c =
+    let f = c .before .before .loop .inv .1 in
+    let d = drained (c .before) in
+    ⊎-elim (λ w. rw (w .2) (filled-both f (w .0 .taken) _ _ d (w .1 .ensures))) (λ w. rw (w .1) (filled-one f (w .0 .left) _ d)) (c .if1 .came)
+
 loop-again : tie.Need-loop-again Inv-loop μ-loop
-loop-again c = (omega arith, filled-more (c .before .before .loop .inv .1) _ _ (drained (c .before)) (c .next-up-anywhere .ensures))
+loop-again c = (omega arith, turned c)
 
 same-length : tie.Need-same-length Inv-loop μ-loop
 same-length c = downs-long (c .before .loop .inv .1)

@@ -1,6 +1,6 @@
 -- Four calls, each with the rule that the grid has.
-use mathlib.Core.Path.{_≡_, refl, sym}
-use mathlib.Core.Bool.{false, true≢false}
+use mathlib.Core.Path.{sym}
+use mathlib.Core.Bool.{true≢false}
 use borrow.Author.Tests.{eqb-true}
 use Rattle.nexts.proofs.Filled.{downs-long, ups-long}
 use Rattle.nexts.proofs.fill_inner.Statement.{statement}

@@ -2,12 +2,14 @@
 use Prim.Native.Nat.{_+_, _-_, _≤_}
 use native.Mathlib.Omega.{arith}
 use mathlib.Core.Path.{_≡_}
+use mathlib.Core.Logic.{⊎-elim}
+use lib.ListN.{set}
 use mathlib.Core.Bool.{true, false}
 use Rattle.surface.specs.Plot.{plotOf, row, isOdd, PostOf}
 use Rattle.surface.specs.Edges.{isBorder}
 use Rattle.surface.specs.Lines.{Spaced}
 use Rattle.nexts.specs.Filled.{ForNexts, NextsFilled}
-use Rattle.nexts.proofs.Filled.{next-fits, filled-none, filled-more, filled-lists, downs-long, ups-long}
+use Rattle.nexts.proofs.Filled.{next-fits, filled-none, filled-both, filled-one, filled-lists, downs-long, ups-long}
 use Rattle.nexts.proofs.fill_inside.Statement.{statement}
 use Rattle.nexts.proofs.fill_inside.Tie as tie
 
@@ -51,34 +53,44 @@ next-inside-requires : tie.Need-next-inside-requires Inv-loop μ-loop
 next-inside-requires c κs = inside c
 
 next-inside-requires-2 : tie.Need-next-inside-requires-2 Inv-loop μ-loop
-next-inside-requires-2 c κs = inside (c .before)
+next-inside-requires-2 c κs = inside (c .before .before)
 
--- the turn's post, once both are known
-turn : (c : tie.After-next-inside2 Inv-loop μ-loop)
-    → let i = c .before .before in
+-- the turn's post, once next down is known
+turn : (c : tie.After-next-inside Inv-loop μ-loop)
+    → let i = c .before in
     PostOf (plotOf (start (i .before) .args .grid) (start (i .before) .args .heights .now)) (start (i .before) .args .from + i .before .loop .i)
-turn c = post (c .before .before)
-
-cast-downs : tie.Need-cast-downs Inv-loop μ-loop
-cast-downs c = omega (arith, c .before .next-inside .ensures, next-fits (turn c) (start (c .before .before .before) .args .spacings))
-
-mul-downs : tie.Need-mul-downs Inv-loop μ-loop
-mul-downs c = omega (arith, turn c .post, turn c .valid .sides)
-
-slice-write-downs : tie.Need-slice-write-downs Inv-loop μ-loop
-slice-write-downs c = omega (arith, turn c .post, lent (c .before .before .before) .downsSize)
+turn c = post (c .before)
 
 cast-ups : tie.Need-cast-ups Inv-loop μ-loop
-cast-ups c = omega (arith, c .next-inside2 .ensures, next-fits (turn c) (start (c .before .before .before) .args .spacings))
+cast-ups c = let t = c .before .before in omega (arith, c .next-inside2 .ensures, next-fits (turn t) (start (t .before .before) .args .spacings))
 
 mul-ups : tie.Need-mul-ups Inv-loop μ-loop
-mul-ups c = omega (arith, turn c .post, turn c .valid .sides)
+mul-ups c = let t = c .before .before in omega (arith, turn t .post, turn t .valid .sides)
 
 slice-write-ups : tie.Need-slice-write-ups Inv-loop μ-loop
-slice-write-ups c = omega (arith, turn c .post, lent (c .before .before .before) .upsSize)
+slice-write-ups c = let t = c .before .before in omega (arith, turn t .post, lent (t .before .before) .upsSize (c .before .if1 .taken))
+
+cast-downs : tie.Need-cast-downs Inv-loop μ-loop
+cast-downs c = omega (arith, c .before .next-inside .ensures, next-fits (turn (c .before)) (start (c .before .before .before) .args .spacings))
+
+mul-downs : tie.Need-mul-downs Inv-loop μ-loop
+mul-downs c = omega (arith, turn (c .before) .post, turn (c .before) .valid .sides)
+
+slice-write-downs : tie.Need-slice-write-downs Inv-loop μ-loop
+slice-write-downs c = omega (arith, turn (c .before) .post, lent (c .before .before .before) .downsSize)
+
+-- after a turn: one post more in the first list and, where both are filled, in the second
+turned : (c : tie.Joined1 Inv-loop μ-loop)
+    → let l = c .before .before .before in
+    let a = start l .args in
+    NextsFilled (plotOf (a .grid) (a .heights .now)) (a .spacings) (a .both) (a .from) (l .loop .i + 1) (a .downs .now) (a .ups .now) (set (l .loop .downs) (a .from + l .loop .i) (c .before .next-inside .result)) (c .if1 .ups)
+turned c =
+    let f = c .before .before .before .loop .inv .1 in
+    let d = c .before .next-inside .ensures in
+    ⊎-elim (λ w. rw (w .2) (filled-both f (w .0 .taken) _ _ d (w .1 .ensures))) (λ w. rw (w .1) (filled-one f (w .0 .left) _ d)) (c .if1 .came)
 
 loop-again : tie.Need-loop-again Inv-loop μ-loop
-loop-again c = (omega arith, filled-more (c .before .before .before .loop .inv .1) _ _ (c .before .next-inside .ensures) (c .next-inside2 .ensures))
+loop-again c = (omega arith, turned c)
 
 same-length : tie.Need-same-length Inv-loop μ-loop
 same-length c = downs-long (c .before .loop .inv .1)
@@ -92,4 +104,4 @@ returns c =
     rw e at (c .before .loop .inv .1)
 
 pub fill-inside-spec : {M : Type 1} → statement M
-fill-inside-spec = tie.close (tie.spec Inv-loop μ-loop loop-holds add-p next-inside-requires next-inside-requires-2 cast-downs mul-downs slice-write-downs cast-ups mul-ups slice-write-ups (λ c. omega arith) (λ c. omega arith) loop-again same-length same-length-2 returns)
+fill-inside-spec = tie.close (tie.spec Inv-loop μ-loop loop-holds add-p next-inside-requires next-inside-requires-2 cast-ups mul-ups slice-write-ups cast-downs mul-downs slice-write-downs (λ c. omega arith) (λ c. omega arith) loop-again same-length same-length-2 returns)

@@ -1,5 +1,5 @@
 -- A row's first post, those inside and its last post, one after the other.
-use Prim.Native.Nat.{_+_, _-_, _*_, _≤_, _<_}
+use Prim.Native.Nat.{_+_, _-_, _*_, _≤_}
 use native.Mathlib.Omega.{arith}
 use mathlib.Core.Path.{_≡_, refl, sym, ap}
 use Rattle.surface.specs.Plot.{plotOf, isOdd}

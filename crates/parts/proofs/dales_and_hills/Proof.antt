@@ -1,13 +1,14 @@
 -- A refusal is handed on, and the ends of the paths that the next posts make are the names asked for.
-use mathlib.Core.Path.{_≡_, sym, _∙_, ap}
+use mathlib.Core.Path.{_≡_, refl, sym, _∙_, ap}
+use mathlib.Core.Bool.{true}
 use Rattle.surface.specs.Plot.{Plot}
 use Rattle.surface.specs.Lines.{spacings}
 use Rattle.surface.specs.Refusals.{partsVerdict}
 use Rattle.surface.specs.Calls.{plotSaid, partsAnswer}
 use Rattle.surface.specs.declared.Answer.{Answer}
 use Rattle.surface.specs.declared.Spacings.{Spacings}
-use Rattle.parts.specs.Filled.{ForParts}
-use Rattle.parts.proofs.Filled.{dales-long, hills-long}
+use Rattle.nexts.specs.Filled.{ForNexts}
+use Rattle.nexts.proofs.Filled.{downs-long, ups-long}
 use Rattle.parts.proofs.Descents.{dales-end, hills-end, dales-named, hills-named}
 use Rattle.surface.proofs.OfCalls.Verdicts.{code}
 use Rattle.surface.proofs.OfCalls.Accepted.{plain, plot-ruled}
@@ -40,7 +41,7 @@ served : (c : tie.Else1) → let v = c .before .before in first v (plain (asked 
 served c = let v = c .before .before in sym (ap (λ (pl : Plot). first v pl .code) (same c)) ∙ passed c
 
 -- what an accepted call was lent
-lent : (c : tie.Else1) → let v = c .before .before in ForParts (plain (asked v)) (spaced v) (start v .args .dales .now) (start v .args .hills .now)
+lent : (c : tie.Else1) → let v = c .before .before in ForNexts (plain (asked v)) (spaced v) true (start v .args .dales .now) (start v .args .hills .now)
 lent c = parts-valid _ _ _ _ (served c)
 
 -- acceptance, from the filled lists
@@ -62,14 +63,14 @@ shorten-requires c κs =
     let f = c .before .before .before .before .before in
     let k = lent (accepted f) in
     let w = f .fill-nexts .ensures in
-    (dales-end k w, k .valid .sides, dales-long w ∙ k .dalesSize)
+    (dales-end k w, k .valid .sides, downs-long w ∙ k .downsSize)
 
 shorten-requires-2 : tie.Need-shorten-requires-2
 shorten-requires-2 c κs =
     let f = c .before .before .before .before .before .before .before .before .before in
     let k = lent (accepted f) in
     let w = f .fill-nexts .ensures in
-    (hills-end k w, k .valid .sides, hills-long w ∙ k .hillsSize)
+    (hills-end k w, k .valid .sides, ups-long w ∙ k .upsSize refl)
 
 returns-2 : tie.Need-returns-2
 unfolding partsAnswer
