@@ -1,6 +1,6 @@
 -- Keys: the height of a post q and its place among the nine posts round p, in one number. A place is below 2,048, so comparing keys is comparing posts in
 -- the height order; and a key fits 32 bits with a sign.
-use Prim.Native.Nat.{ℕ, _+_, _-_, _*_, _%_, _≤_, _<_}
+use Prim.Native.Nat.{ℕ, _+_, _-_, _%_, _≤_, _<_}
 use mathlib.Core.Bool.{Bool, false, cond, not, _&&_}
 use lib.IntN.{ℤ, pos, negsuc, _+ℤ_, _*ℤ_}
 use lib.Signed.{ltZ, shrZ}

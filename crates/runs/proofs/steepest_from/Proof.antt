@@ -1,7 +1,7 @@
 -- The loop's invariant: the first of what was found so far and of the run's members from place j on is the run's steepest.
 use native.Mathlib.Omega.{arith}
 use mathlib.Core.Path.{_≡_, sym, _∙_}
-use Prim.Native.Nat.{_+_, _-_, _≤_, _<_}
+use Prim.Native.Nat.{_-_, _≤_, _<_}
 use mathlib.Core.Logic.{inl}
 use mathlib.Core.Bool.{Bool}
 use mathlib.Core.List.{_++_}

@@ -88,7 +88,7 @@ at-least-requires : tie.Need-at-least-requires
 at-least-requires c κs =
     let d = c .before .before in
     rw (d .square .ensures, c .square2 .ensures)
-    (times-square (d .before .drop-to .result) (d .before .drop-to .ensures .1) _ (most (d .before)), below c)
+    (times-square (d .before .drop-to .result) (d .before .drop-to .ensures .1) _ (most (d .before)), omega (arith, below c))
 
 returns : tie.Need-returns
 returns c =
