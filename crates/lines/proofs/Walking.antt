@@ -7,10 +7,10 @@ use mathlib.Core.List.{List, [], _∷_}
 use lib.ListN.{length}
 use lib.Seq.{sets, length-sets}
 use Rattle.surface.specs.Plot.{Plot, posts, maxPosts, virtualPit}
-use Rattle.surface.specs.Lines.{Descent, isEnd, next, walk, toward}
+use Rattle.surface.specs.Lines.{Descent, isEnd, next, walk, runsOf, lineStart, line, toward}
 use Rattle.surface.proofs.General.Bools.{either}
 use Rattle.surface.proofs.AnyOrder.Order.{rank}
-use Rattle.surface.proofs.AnyOrder.Walks.{Falling, next-vertex, next-step, next-stop, pit-stop, walk-next}
+use Rattle.surface.proofs.AnyOrder.Walks.{Falling, next-vertex, next-step, next-stop, pit-stop, walk-next, line-falls}
 use Rattle.surface.proofs.OfPlots.Instance.{toward-falling}
 use Rattle.surface.specs.declared.Spacings.{Spacings}
 use Rattle.lines.specs.declared.walk.Walk.{Walk}
@@ -92,3 +92,10 @@ module _ {pl : Plot} {s : Spacings} {from : Walk} where
 
     pub along-end : next (toward pl s (at .up)) (at .post) ≡ at .post → entries ≡ length (path pl s from)
     along-end h = omega (arith, a .counted, ap length (path-end (a .stands) h))
+
+-- the walk from where the line of a run goes to has at most as many entries as there are posts
+module _ {n : ℕ} {d : Descent} (law : Falling n d) {post run q : ℕ} (h : post < n) (has : run < length (runsOf d post))
+    (goes : q ≡ lineStart d post run) where
+  pub start-short : length (walk d n q) ≤ n
+  unfolding line
+  start-short = let f = line-falls law post run h has in rw goes (omega (arith, f .2 .bound, ap length (f .1)))

@@ -1,4 +1,2 @@
--- A walk of a plot; the order of a choice among vertices; a saddle, and where its lines go to.
+-- A walk of a plot.
 pub mod Walks
-pub mod Slopes
-pub mod Runs

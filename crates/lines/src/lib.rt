@@ -1,21 +1,18 @@
 // docs/SPECIFICATION.md, "Lines, dales and hills": next down and next up from a post, and the lines of a saddle.
 mod line;
-pub mod run;
-mod slope;
 mod walk;
 
 use limits::post_verdict;
 use line::draw_line;
-use next::step::next_at;
+use settings::grid_of;
 use settings::read_sheet;
 use surface::DOWN;
 use surface::Entries;
-use surface::Grid;
-use surface::HIGHEST_RULE;
 use surface::Next;
 use surface::Sheet;
 use surface::Spacings;
 use surface::UP;
+use walk::Walk;
 ghost use mathlib.Core.Path.{_≡_};
 ghost use Rattle.surface.specs.Lines.{toward};
 ghost use Rattle.surface.specs.Spacings.{spacings};
@@ -41,15 +38,15 @@ fn next_post(
             post: 0,
         };
     }
-    let grid = Grid {
-        rows: rows as usize,
-        columns: columns as usize,
-        highest: said.rule == HIGHEST_RULE,
-    };
+    let grid = grid_of(said, rows, columns);
+    let ahead = Walk {
+        post: post as usize,
+        up,
+    }.next(heights, grid, spacings);
     Next {
         code: 0,
         place: 0,
-        post: next_at(heights, grid, spacings, post as usize, up) as u32,
+        post: ahead.post as u32,
     }
 }
 

@@ -1,14 +1,14 @@
 // The line of a saddle and a run: walked to write its entries, and before that to count them where the list may be too short.
-use crate::run::line_start;
 use crate::walk::Walk;
 use crate::walk::entries_of;
 use limits::post_verdict;
 use post::mark::mark_at;
 use post::ring::ring_at;
+use runs::line_start;
+use settings::grid_of;
 use settings::read_sheet;
 use surface::Entries;
 use surface::Grid;
-use surface::HIGHEST_RULE;
 use surface::SADDLE;
 use surface::Spacings;
 ghost use mathlib.Core.Path.{_≡_};
@@ -130,10 +130,6 @@ pub(crate) fn draw_line(
     if refusal.code != 0 {
         return refused(refusal.code, refusal.place);
     }
-    let grid = Grid {
-        rows: rows as usize,
-        columns: columns as usize,
-        highest: said.rule == HIGHEST_RULE,
-    };
+    let grid = grid_of(said, rows, columns);
     draw_from(heights, grid, spacings, post as usize, run, up, line)
 }

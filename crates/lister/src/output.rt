@@ -9,9 +9,8 @@ use survey_file::posts_in;
 ghost use Prim.Native.Nat.{_≤_};
 ghost use lib.ListN.{length};
 ghost use Rattle.surface.specs.Plot.{plotOf};
-ghost use Rattle.listing.specs.Wrote.{postRoom};
 ghost use Rattle.listing.specs.First.{Lent};
-ghost use Rattle.listing.specs.Lines.{Known};
+ghost use Rattle.listing.specs.Lines.{postRoom, Known};
 
 // Room for the lines of many posts, so that few calls write them.
 const OUTPUT_ROOM: usize = 65536;
@@ -21,16 +20,17 @@ fn print_posts(
     heights: &[i32],
     grid: Grid,
     spacings: Spacings,
+    marks: &[u8],
     dales: &[u16],
     hills: &[u16],
     buffer: &mut [u8],
 ) -> bool
-    requires { ⌜ Known (plotOf grid (now heights)) spacings (now dales) (now hills) × (postRoom ≤ length (now buffer)) ⌝ }
+    requires { ⌜ Known (plotOf grid (now heights)) spacings (now marks) (now dales) (now hills) × (postRoom ≤ length (now buffer)) ⌝ }
 {
     let posts = grid.rows * grid.columns;
     let mut post = 0;
     while post < posts {
-        let filled = put_posts(heights, grid, spacings, dales, hills, post, buffer);
+        let filled = put_posts(heights, grid, spacings, marks, dales, hills, post, buffer);
         let bytes = filled.bytes;
         if !io::write_all(STDOUT_FILENO, &buffer[..bytes]) {
             return false;
@@ -60,7 +60,7 @@ fn print_listing(
     if !written | (grid.rows == 0) {
         return written;
     }
-    print_posts(heights, grid, spacings, dales, hills, buffer)
+    print_posts(heights, grid, spacings, marks, dales, hills, buffer)
 }
 
 // Prints the listing of a sheet and a file. Its plot may be as large as any.

@@ -4,29 +4,39 @@ use native.Mathlib.Omega.{arith}
 use mathlib.Core.Path.{_≡_, refl, sym, _∙_, ap}
 use mathlib.Core.Bool.{Bool, true, false, _&&_, true≢false}
 use mathlib.Core.List.{List, [], _++_, flatten, append-nil, append-assoc}
-use borrow.Author.Tests.{lt-ltb, le-ltb, ltb-true, ltb-false, le-leb}
+use borrow.Author.Tests.{ltb-true, ltb-false, le-leb}
 use lib.Dec.{ltb, leb}
-use lib.ListN.{length}
+use lib.ListN.{length, getD}
 use Rattle.surface.specs.Lists.{listOf}
 use Rattle.surface.specs.Plot.{Plot, posts}
-use Rattle.surface.specs.Marks.{markAt}
+use Rattle.surface.specs.Marks.{isSaddle, markAt, marksOf}
 use Rattle.surface.specs.Lines.{down, up, daleAt, hillAt, dalesOf, hillsOf}
 use Rattle.surface.specs.Lister.{linesText, saddleLines, postLines}
 use Rattle.surface.proofs.General.Bools.{either}
-use Rattle.surface.proofs.General.ListOf.{listOf-ext}
+use Rattle.surface.proofs.General.ListOf.{length-listOf, getD-listOf, listOf-ext}
 use Rattle.surface.specs.declared.Spacings.{Spacings}
 use Rattle.post.specs.declared.ring.Ring.{Ring}
-use Rattle.lines.specs.Runs.{Saddle}
-use Rattle.listing.specs.Wrote.{runsRoom, postRoom, Wrote}
-use Rattle.listing.specs.Lines.{linesFrom, SaddleWith, Known, Listed}
-use Rattle.listing.proofs.Writing.{more, nothing, front}
+use Rattle.runs.specs.Runs.{Saddle}
+use Rattle.text.specs.Wrote.{Wrote}
+use Rattle.listing.specs.Lines.{runsRoom, postRoom, linesFrom, SaddleWith, Known, Listed}
+use Rattle.text.proofs.Writing.{more, nothing, front}
 use Rattle.listing.proofs.Saddles.{flatten-more}
 
 first-false : (a b : Bool) → a && b ≡ false → b ≡ true → a ≡ false
 first-false true b h e = absurd (true≢false (sym e ∙ h))
 first-false false b h e = refl
 
-module _ {pl : Plot} {s : Spacings} {dales hills : List ℕ} (k : Known pl s dales hills) {p : ℕ} {ring : Ring} (z : Saddle pl p ring) where
+-- what the filled lists tell of a post
+module _ {pl : Plot} {s : Spacings} {marks dales hills : List ℕ} (k : Known pl s marks dales hills) where
+  pub marks-long : length marks ≡ posts pl
+  unfolding marksOf
+  marks-long = rw (k .marksKnown) (length-listOf (markAt pl) (posts pl))
+
+  pub mark-known : {p : ℕ} → p < posts pl → getD marks p 0 ≡ markAt pl p
+  unfolding marksOf
+  mark-known {p} h = rw (k .marksKnown) (getD-listOf (markAt pl) (posts pl) p 0 h)
+
+module _ {pl : Plot} {s : Spacings} {marks dales hills : List ℕ} (k : Known pl s marks dales hills) {p : ℕ} {ring : Ring} (z : Saddle pl p ring) where
   pub downward : SaddleWith pl s false p ring dales
   unfolding dalesOf daleAt
   downward = record { saddle = z; spaced = k .spaced; known = k .dalesKnown }
@@ -36,17 +46,17 @@ module _ {pl : Plot} {s : Spacings} {dales hills : List ℕ} (k : Known pl s dal
   upward = record { saddle = z; spaced = k .spaced; known = k .hillsKnown }
 
 module _ (pl : Plot) (s : Spacings) (p : ℕ) where
-  pub no-saddle : (l : List ℕ) (at : ℕ) → markAt pl p < 3 → Wrote postRoom l l at (postLines pl s p) at
+  pub no-saddle : (l : List ℕ) (at : ℕ) → isSaddle (markAt pl p) ≡ false → Wrote postRoom l l at (postLines pl s p) at
   unfolding postLines
-  no-saddle l at h = rw (lt-ltb _ 3 h) (nothing l at)
+  no-saddle l at h = rw h (nothing l at)
 
   -- water lines, then crest lines
-  pub both : {l l₁ l₂ : List ℕ} {at next last : ℕ} → 3 ≤ markAt pl p
+  pub both-written : {l l₁ l₂ : List ℕ} {at next last : ℕ} → isSaddle (markAt pl p) ≡ true
       → Wrote runsRoom l l₁ at (linesText pl 84 (down pl s) p) next
       → Wrote runsRoom l₁ l₂ next (linesText pl 82 (up pl s) p) last
       → Wrote postRoom l l₂ at (postLines pl s p) last
   unfolding postLines saddleLines
-  both h w v = rw (le-ltb _ 3 h) (more w v)
+  both-written h w v = rw h (more w v)
 
   -- posts one after the other
   from-none : linesFrom pl s p p ≡ []

@@ -1,5 +1,4 @@
--- Text in a lent list; the lines of a saddle, those of one post after the other, and the line before them.
-mod Writing
+-- The lines of a saddle, those of one post after the other, and the line before them.
 mod Saddles
 mod Chunks
 mod Starting

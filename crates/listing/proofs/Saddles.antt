@@ -3,7 +3,7 @@ use Prim.Native.Nat.{ℕ, zero, suc, _+_, _*_, _≤_, _<_}
 use native.Mathlib.Omega.{arith}
 use native.Mathlib.Numerals.{add-one}
 use mathlib.Core.Path.{_≡_, refl, sym, _∙_, ap}
-use mathlib.Core.Logic.{_⊎_, ⊎-elim}
+use mathlib.Core.Logic.{⊎-elim}
 use mathlib.Core.Bool.{Bool, true, false, cond, not, _&&_}
 use mathlib.Core.List.{List, [], _∷_, _++_, flatten, append-assoc, append-nil}
 use borrow.Author.Tests.{eq-eqb, ne-eqb, ltb-true, ltb-false}
@@ -19,12 +19,12 @@ use Rattle.surface.proofs.AnyOrder.Walks.{Falling, end-stop, pit-stop}
 use Rattle.surface.proofs.OfPlots.Instance.{toward-falling}
 use Rattle.surface.specs.declared.Spacings.{Spacings}
 use Rattle.post.specs.declared.ring.Ring.{Ring}
-use Rattle.lines.specs.declared.run.Start.{Start}
-use Rattle.lines.specs.Runs.{Starts}
-use Rattle.lines.proofs.Called.{start-vertex}
-use Rattle.listing.specs.Wrote.{lineRoom, Wrote}
+use Rattle.runs.specs.declared.Start.{Start}
+use Rattle.runs.specs.Runs.{Starts}
+use Rattle.runs.proofs.Ringed.{start-vertex}
+use Rattle.text.specs.Wrote.{lineRoom, Wrote}
 use Rattle.listing.specs.Lines.{endFrom, runLines, SaddleWith}
-use Rattle.listing.proofs.Writing.{more, within, nothing}
+use Rattle.text.proofs.Writing.{more, within, nothing}
 
 flatten-append : {A : Type 0} (l m : List (List A)) → flatten (l ++ m) ≡ flatten l ++ flatten m
 unfolding flatten

@@ -8,10 +8,10 @@ use borrow.Author.Tests.{ne-eqb}
 use lib.Dec.{eqb}
 use lib.IntN.{ℤ, pos}
 use lib.ListN.{length, replicate, length-replicate}
-use Rattle.surface.specs.Plot.{Plot, ruled, posts, maxSide, isSide, Valid}
+use Rattle.surface.specs.Plot.{Plot, ruled, posts, isSide, Valid}
 use Rattle.surface.specs.Spacings.{spacings}
-use Rattle.surface.specs.Refusals.{verdict, readVerdict}
-use Rattle.surface.specs.Calls.{sheetSays, plotBy, readAnswer, readHeights, surveyAnswer, partsDales, partsHills}
+use Rattle.surface.specs.Refusals.{verdict, surveyVerdict, readVerdict}
+use Rattle.surface.specs.Calls.{sheetSays, plotBy, readAnswer, readHeights, surveyAnswer, surveyMarks, partsDales, partsHills}
 use Rattle.surface.specs.Lister.{decimal, textLine, headLine, plotText, refusedText, fileListing, listing}
 use Rattle.surface.specs.declared.Answer.{Answer}
 use Rattle.surface.specs.declared.Counts.{Counts}
@@ -19,16 +19,16 @@ use Rattle.surface.specs.declared.Sheet.{Sheet}
 use Rattle.surface.specs.declared.Size.{Size}
 use Rattle.surface.specs.declared.Spacings.{Spacings}
 use Rattle.surface.proofs.General.Bools.{either}
-use Rattle.surface.proofs.OfCalls.Accepted.{valid-survey, valid-parts, rowsIn, columnsIn, postsIn, read-valid}
-use Rattle.surface.proofs.OfCalls.FileCalls.{read-code, read-served}
-use Rattle.surface.proofs.OfCalls.MarkCalls.{survey-filled, survey-served}
+use Rattle.surface.proofs.OfCalls.MarkCalls.{valid-survey, survey-filled, survey-served}
+use Rattle.surface.proofs.OfCalls.PartsCall.{valid-parts}
+use Rattle.surface.proofs.OfCalls.FileCalls.{rowsIn, columnsIn, postsIn, read-valid, read-code, read-served}
 use Rattle.surface.proofs.OfCalls.RoundTrip.{read-fresh, read-plot, read-spaced}
 use Rattle.survey_file.specs.Layout.{plotPosts}
-use Rattle.listing.specs.Wrote.{lineRoom, Wrote}
+use Rattle.text.specs.Wrote.{lineRoom, Wrote}
 use Rattle.listing.specs.Lines.{linesFrom, Known}
 use Rattle.listing.specs.First.{Lent, Refuses, Begins}
 use Rattle.listing.specs.declared.first.Begun.{Begun}
-use Rattle.listing.proofs.Writing.{front}
+use Rattle.text.proofs.Writing.{front}
 use Rattle.listing.proofs.Chunks.{from-zero}
 
 -- the list that the definition of a listing lends
@@ -72,22 +72,23 @@ module _ (file : List ℕ) (hs : List ℤ) (h : length hs ≡ plotPosts file) wh
     unfolding fileListing
     whole = let f = read-fresh file hs (fresh file) alike in rw (← f .0, e, ← f .1 e, means)
 
+    surveyed : (marks : List ℕ) → length marks ≡ posts read → surveyVerdict read marks .code ≡ 0
+    surveyed marks k = ap (λ (a : Answer). a .code) (valid-survey read marks (record { sheet = (refl, refl); valid = valid; marksSize = k }))
+
     -- the counts are those of the marks
     head : (marks : List ℕ) → length marks ≡ posts read
         → let a = surveyAnswer read marks in
         textLine 78 (decimal read.rows ∷ decimal read.columns ∷ decimal (a .peaks) ∷ decimal (a .pits) ∷ decimal (a .saddles) ∷ []) ≡ headLine read
     unfolding headLine
-    head marks k =
-        let v = ap (λ (a : Answer). a .code) (valid-survey read valid (refl, refl) marks k) in
-        rw (survey-served read marks v, survey-filled read marks v)
+    head marks k = let v = surveyed marks k in rw (survey-served read marks v, survey-filled read marks v)
 
-    known : (dales hills : List ℕ) → length dales ≡ posts read → length hills ≡ posts read
-        → Known read apart (partsDales read apart dales hills) (partsHills read apart dales hills)
+    known : (marks dales hills : List ℕ) → length marks ≡ posts read → length dales ≡ posts read → length hills ≡ posts read
+        → Known read apart (surveyMarks read marks) (partsDales read apart dales hills) (partsHills read apart dales hills)
     unfolding partsDales partsHills
-    known dales hills k m =
+    known marks dales hills j k m =
         let spaced = read-spaced file hs e in
-        let v = valid-parts read valid (refl, refl) spaced dales hills k m in
-        record { valid = valid; spaced = spaced; dalesKnown = rw v; hillsKnown = rw v }
+        let v = valid-parts read apart dales hills (record { sheet = (refl, refl); valid = valid; spaced = spaced; dalesSize = k; hillsSize = m }) in
+        record { valid = valid; spaced = spaced; marksKnown = survey-filled read marks (surveyed marks j); dalesKnown = rw v; hillsKnown = rw v }
 
     left : headLine read ++ linesFrom read apart 0 (posts read) ≡ fileListing sheet file
     unfolding plotText
@@ -108,9 +109,9 @@ unfolding listing
 sheet-passes sheet file said i e = rw (← i) (rw e)
 
 -- a refusal is a whole listing
-pub begins-refused : {whole buffer : List ℕ} {r : Begun} (hs : List ℤ) (dales hills : List ℕ) (text : List ℕ) → text ≡ whole → Refuses text buffer r
-    → Begins whole hs dales hills buffer r
-begins-refused hs dales hills text e f =
+pub begins-refused : {whole buffer : List ℕ} {r : Begun} (hs : List ℤ) (marks dales hills : List ℕ) (text : List ℕ) → text ≡ whole → Refuses text buffer r
+    → Begins whole hs marks dales hills buffer r
+begins-refused hs marks dales hills text e f =
     record { room = f .room; refused = λ _. f .bytes ∙ e; text = λ z. absurd (z (f .rows)); known = λ z. absurd (z (f .rows)) }
 
 -- the outcome of reading, refused and accepted
@@ -118,29 +119,27 @@ module _ (sheet file : List ℕ) (hs : List ℤ) (h : length hs ≡ plotPosts fi
   pub file-refuses : (a .code ≡ 0 → ⊥) → refusedText (a .code) (a .place) ≡ fileListing sheet file
   file-refuses n = let m : readAnswer file hs .code ≡ 0 → ⊥ = rw isAnswer at n in rw isAnswer (refusal file hs h sheet m)
 
-  pub small-sides : a .code ≡ 0 → (a .rows ≤ maxSide) × (a .columns ≤ maxSide)
-  small-sides e = rw isAnswer (let s = read-plot file hs (rw isAnswer at e) .sides in (s .low, s .narrow))
-
   pub begins-accepted : (highest : Bool) → ((rows columns : ℕ) (heights : List ℤ) → plotBy sheet rows columns heights ≡ ruled highest rows columns heights)
-      → (after : List ℤ) (marks dales hills dales′ hills′ l l₁ : List ℕ) (counts : Counts) (bytes : ℕ)
+      → (after : List ℤ) (marks dales hills marks′ dales′ hills′ l l₁ : List ℕ) (counts : Counts) (bytes : ℕ)
       → a .code ≡ 0
       → after ≡ readHeights file hs
       → counts ≡ surveyAnswer (plotBy sheet (a .rows) (a .columns) after) marks
+      → marks′ ≡ surveyMarks (plotBy sheet (a .rows) (a .columns) after) marks
       → dales′ ≡ partsDales (plotBy sheet (a .rows) (a .columns) after) (spacings (a .east) (a .south)) dales hills
       → hills′ ≡ partsHills (plotBy sheet (a .rows) (a .columns) after) (spacings (a .east) (a .south)) dales hills
       → Lent file hs marks dales hills
       → lineRoom ≤ length l
       → Wrote lineRoom l l₁ 0 (textLine 78 (decimal (a .rows) ∷ decimal (a .columns) ∷ decimal (counts .peaks) ∷ decimal (counts .pits) ∷ decimal (counts .saddles) ∷ [])) bytes
-      → Begins (fileListing sheet file) after dales′ hills′ l₁ (record { grid = record { rows = a .rows; columns = a .columns; highest = highest }; spacings = spacings (a .east) (a .south); bytes = bytes })
-  begins-accepted highest means after marks dales hills dales′ hills′ l l₁ counts bytes e ea ec ed eh r k w =
+      → Begins (fileListing sheet file) after marks′ dales′ hills′ l₁ (record { grid = record { rows = a .rows; columns = a .columns; highest = highest }; spacings = spacings (a .east) (a .south); bytes = bytes })
+  begins-accepted highest means after marks dales hills marks′ dales′ hills′ l l₁ counts bytes e ea ec em ed eh r k w =
       let c : readAnswer file hs .code ≡ 0 = rw isAnswer at e in
       let plotted = means (a .rows) (a .columns) after in
       let f = front l l₁ _ bytes k (rw (ec, plotted, ea, isAnswer) at w) in
       let size : plotPosts file ≡ posts (read file hs h sheet highest means c) = sym h ∙ size file hs h sheet highest means c in
-      rw (ed, eh, plotted, ea, isAnswer)
+      rw (em, ed, eh, plotted, ea, isAnswer)
       (record {
         room = f .2;
         refused = λ z. absurd (omega (arith, z, valid file hs h sheet highest means c .sides .tall));
         text = λ _. rw (f .0 ∙ head file hs h sheet highest means c marks (r .marksSize ∙ size)) (left file hs h sheet highest means c);
-        known = λ _. known file hs h sheet highest means c dales hills (r .dalesSize ∙ size) (r .hillsSize ∙ size);
+        known = λ _. known file hs h sheet highest means c marks dales hills (r .marksSize ∙ size) (r .dalesSize ∙ size) (r .hillsSize ∙ size);
       })

@@ -22,9 +22,10 @@ pub record Refuses (text buffer : List ℕ) (r : Begun) : Type 0 where
   pub bytes : take (r .bytes) buffer ≡ text
   pub rows : r .grid .rows ≡ 0
 
--- where there are no rows, the first bytes are the whole listing; else the lines of all posts are what is left of it, and dales and hills are known
-pub record Begins (whole : List ℕ) (hs : List ℤ) (dales hills buffer : List ℕ) (r : Begun) : Type 0 where
+-- where there are no rows, the first bytes are the whole listing; else the lines of all posts are what is left of it, and marks, dales and hills are
+-- known
+pub record Begins (whole : List ℕ) (hs : List ℤ) (marks dales hills buffer : List ℕ) (r : Begun) : Type 0 where
   pub room : r .bytes ≤ length buffer
   pub refused : r .grid .rows ≡ 0 → take (r .bytes) buffer ≡ whole
   pub text : (r .grid .rows ≡ 0 → ⊥) → take (r .bytes) buffer ++ linesFrom (plotOf (r .grid) hs) (r .spacings) 0 (posts (plotOf (r .grid) hs)) ≡ whole
-  pub known : (r .grid .rows ≡ 0 → ⊥) → Known (plotOf (r .grid) hs) (r .spacings) dales hills
+  pub known : (r .grid .rows ≡ 0 → ⊥) → Known (plotOf (r .grid) hs) (r .spacings) marks dales hills

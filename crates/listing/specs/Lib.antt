@@ -1,4 +1,3 @@
--- What the functions that write text into a lent list ask, and what they leave there.
-pub mod Wrote
+-- The lines of saddles, and the start of a listing.
 pub mod Lines
 pub mod First

@@ -1,4 +1,4 @@
--- The lines of saddles, and the filled lists by which they know the ends.
+-- The lines of saddles, and the filled lists by which saddles and ends are known.
 use Prim.Native.Nat.{ℕ, _+_, _-_, _≤_, _<_}
 use mathlib.Core.Path.{_≡_}
 use mathlib.Core.Bool.{Bool, cond}
@@ -7,13 +7,21 @@ use lib.Dec.{eqb}
 use lib.ListN.{length, getD, take, drop}
 use Rattle.surface.specs.Lists.{listOf}
 use Rattle.surface.specs.Plot.{Plot, posts, virtualPit, Valid}
+use Rattle.surface.specs.Marks.{marksOf}
 use Rattle.surface.specs.Lines.{Descent, end, line, toward, dalesOf, hillsOf}
 use Rattle.surface.specs.Spacings.{Spaced}
 use Rattle.surface.specs.Lister.{lineText, postLines}
 use Rattle.surface.specs.declared.Spacings.{Spacings}
 use Rattle.post.specs.declared.ring.Ring.{Ring}
-use Rattle.lines.specs.Runs.{Saddle}
-use Rattle.listing.specs.declared.posts.Filled.{Filled}
+use Rattle.runs.specs.Runs.{Saddle}
+use Rattle.listing.specs.declared.posts.Put.{Put}
+
+-- the most bytes that the lines of a saddle in one direction take, and those of a post
+abbrev pub runsRoom : ℕ
+runsRoom = 480
+
+abbrev pub postRoom : ℕ
+postRoom = 960
 
 -- the end from a vertex, by the list of the ends from the posts
 abbrev pub endFrom : List ℕ → ℕ → ℕ
@@ -38,16 +46,17 @@ pub record SaddleWith (pl : Plot) (s : Spacings) (up : Bool) (p : ℕ) (ring : R
   pub spaced : Spaced s
   pub known : ends ≡ endsOf pl (toward pl s up)
 
--- a plot, spacings in range, and its dales and hills by these
-pub record Known (pl : Plot) (s : Spacings) (dales hills : List ℕ) : Type 0 where
+-- a plot, its marks, spacings in range, and its dales and hills by these
+pub record Known (pl : Plot) (s : Spacings) (marks dales hills : List ℕ) : Type 0 where
   pub valid : Valid pl
   pub spaced : Spaced s
+  pub marksKnown : marks ≡ marksOf pl
   pub dalesKnown : dales ≡ dalesOf pl s
   pub hillsKnown : hills ≡ hillsOf pl s
 
 -- the first bytes are the lines of the posts from `from` on, up to the post named, which is further on where there was a post left; later bytes are
 -- kept
-pub record Listed (pl : Plot) (s : Spacings) (from : ℕ) (old new : List ℕ) (r : Filled) : Type 0 where
+pub record Listed (pl : Plot) (s : Spacings) (from : ℕ) (old new : List ℕ) (r : Put) : Type 0 where
   pub text : take (r .bytes) new ≡ linesFrom pl s from (r .post)
   pub kept : drop (r .bytes) new ≡ drop (r .bytes) old
   pub room : r .bytes ≤ length new

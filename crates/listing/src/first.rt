@@ -1,20 +1,20 @@
 // The start of a listing: the sheet and the file are read, the plot surveyed, its dales and hills found, and the first line written.
-use crate::text::put_head;
-use crate::text::put_refused;
 use parts::dales_and_hills;
+use settings::grid_of;
 use settings::read_sheet;
 use surface::Grid;
-use surface::HIGHEST_RULE;
 use surface::Sheet;
 use surface::Spacings;
 use survey::survey;
 use survey_file::read_survey;
+use text::put_head;
+use text::put_refused;
 ghost use mathlib.Core.Path.{_≡_};
 ghost use Prim.Native.Nat.{_≤_};
 ghost use lib.ListN.{length};
 ghost use Rattle.surface.specs.Calls.{sheetSays};
 ghost use Rattle.surface.specs.Lister.{refusedText, fileListing, listing};
-ghost use Rattle.listing.specs.Wrote.{lineRoom};
+ghost use Rattle.text.specs.Wrote.{lineRoom};
 ghost use Rattle.listing.specs.First.{Lent, Refuses, Begins};
 
 // The plot and its spacings, all 0 where the sheet or the file was refused, and how many bytes are written.
@@ -52,7 +52,7 @@ fn put_file(
     out: &mut [u8],
 ) -> Begun
     requires { ⌜ Lent (now file) (now heights) (now marks) (now dales) (now hills) × (lineRoom ≤ length (now out)) × (said ≡ sheetSays (now sheet)) × (said .code ≡ 0) ⌝ }
-    ensures { λ r. ⌜ Begins (fileListing (now (sheet .entry)) (now (file .entry))) (now (heights .exit)) (now (dales .exit)) (now (hills .exit)) (now (out .exit)) r ⌝ }
+    ensures { λ r. ⌜ Begins (fileListing (now (sheet .entry)) (now (file .entry))) (now (heights .exit)) (now (marks .exit)) (now (dales .exit)) (now (hills .exit)) (now (out .exit)) r ⌝ }
 {
     let size = read_survey(file, heights);
     let code = size.code;
@@ -66,11 +66,7 @@ fn put_file(
     let sums = survey(sheet, rows, columns, heights, marks);
     dales_and_hills(sheet, rows, columns, east, south, heights, dales, hills);
     Begun {
-        grid: Grid {
-            rows: rows as usize,
-            columns: columns as usize,
-            highest: said.rule == HIGHEST_RULE,
-        },
+        grid: grid_of(said, rows, columns),
         spacings: Spacings { east, south },
         bytes: put_head(out, 0, rows, columns, sums.peaks, sums.pits, sums.saddles),
     }
@@ -87,7 +83,7 @@ pub fn put_first(
     out: &mut [u8],
 ) -> Begun
     requires { ⌜ Lent (now file) (now heights) (now marks) (now dales) (now hills) × (lineRoom ≤ length (now out)) ⌝ }
-    ensures { λ r. ⌜ Begins (listing (now (sheet .entry)) (now (file .entry))) (now (heights .exit)) (now (dales .exit)) (now (hills .exit)) (now (out .exit)) r ⌝ }
+    ensures { λ r. ⌜ Begins (listing (now (sheet .entry)) (now (file .entry))) (now (heights .exit)) (now (marks .exit)) (now (dales .exit)) (now (hills .exit)) (now (out .exit)) r ⌝ }
 {
     let said = read_sheet(sheet);
     let code = said.code;

@@ -1,29 +1,29 @@
-// The lines of one saddle after the other. Where a line ends is known from the filled lists of dales and hills, so that no line is walked.
-use crate::text::put_line;
-use lines::run::line_start;
-use post::mark::mark_at;
+// The lines of one saddle after the other. Which posts are saddles is known from the list of marks, and where a line ends from those of dales and hills, so
+// that no mark is worked out and no line is walked.
 use post::ring::Ring;
 use post::ring::ring_at;
+use runs::line_start;
 use surface::DOWN;
 use surface::Grid;
 use surface::SADDLE;
 use surface::Spacings;
 use surface::UP;
 use surface::VIRTUAL_PIT;
+use text::put_line;
 ghost use mathlib.Core.Path.{_≡_};
 ghost use Prim.Native.Nat.{_+_, _*_, _≤_, _<_};
 ghost use lib.ListN.{length};
 ghost use Rattle.surface.specs.Plot.{plotOf, Vertex};
 ghost use Rattle.surface.specs.Lines.{toward};
 ghost use Rattle.surface.specs.Lister.{linesText, postLines};
-ghost use Rattle.listing.specs.Wrote.{runsRoom, postRoom, Wrote};
-ghost use Rattle.listing.specs.Lines.{endFrom, SaddleWith, Known, Listed};
+ghost use Rattle.text.specs.Wrote.{Wrote};
+ghost use Rattle.listing.specs.Lines.{runsRoom, postRoom, endFrom, SaddleWith, Known, Listed};
 
 // The most bytes that the lines of one post take.
 pub const POST_ROOM: usize = 960;
 
 // The first post whose lines are not written, and how many bytes are.
-pub struct Filled {
+pub struct Put {
     pub post: usize,
     pub bytes: usize,
 }
@@ -74,16 +74,17 @@ fn put_post(
     heights: &[i32],
     grid: Grid,
     spacings: Spacings,
+    marks: &[u8],
     dales: &[u16],
     hills: &[u16],
     p: usize,
     out: &mut [u8],
     at: usize,
 ) -> usize
-    requires { ⌜ Known (plotOf grid (now heights)) spacings (now dales) (now hills) × (p < grid .rows * grid .columns) × (at + postRoom ≤ length (now out)) ⌝ }
+    requires { ⌜ Known (plotOf grid (now heights)) spacings (now marks) (now dales) (now hills) × (p < grid .rows * grid .columns) × (at + postRoom ≤ length (now out)) ⌝ }
     ensures { λ r. ⌜ Wrote postRoom (now (out .entry)) (now (out .exit)) at (postLines (plotOf grid (now (heights .entry))) spacings p) r ⌝ }
 {
-    if mark_at(heights, grid, p) < SADDLE {
+    if marks[p] < SADDLE {
         return at;
     }
     let ring = ring_at(heights, grid, p);
@@ -96,12 +97,13 @@ pub fn put_posts(
     heights: &[i32],
     grid: Grid,
     spacings: Spacings,
+    marks: &[u8],
     dales: &[u16],
     hills: &[u16],
     from: usize,
     out: &mut [u8],
-) -> Filled
-    requires { ⌜ Known (plotOf grid (now heights)) spacings (now dales) (now hills) × (from ≤ grid .rows * grid .columns) × (postRoom ≤ length (now out)) ⌝ }
+) -> Put
+    requires { ⌜ Known (plotOf grid (now heights)) spacings (now marks) (now dales) (now hills) × (from ≤ grid .rows * grid .columns) × (postRoom ≤ length (now out)) ⌝ }
     ensures { λ r. ⌜ Listed (plotOf grid (now (heights .entry))) spacings from (now (out .entry)) (now (out .exit)) r ⌝ }
 {
     let posts = grid.rows * grid.columns;
@@ -109,8 +111,18 @@ pub fn put_posts(
     let mut post = from;
     let mut bytes = 0;
     while (post < posts) & (bytes <= last) {
-        bytes = put_post(heights, grid, spacings, dales, hills, post, out, bytes);
+        bytes = put_post(
+            heights,
+            grid,
+            spacings,
+            marks,
+            dales,
+            hills,
+            post,
+            out,
+            bytes,
+        );
         post += 1;
     }
-    Filled { post, bytes }
+    Put { post, bytes }
 }

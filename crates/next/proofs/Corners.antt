@@ -4,31 +4,31 @@
 -- in the reversed one the diagonals go through the highest posts, and down and up change places.
 use Prim.Native.Nat.{ℕ, _+_, _-_, _≤_}
 use mathlib.Core.Path.{_≡_, refl, sym, ap, _∙_}
-use mathlib.Core.Logic.{_⊎_, ⊎-elim, inl, inr}
-use mathlib.Core.Bool.{Bool, true, false, cond, not, _&&_, true≢false, or-true, and-false}
-use mathlib.Core.List.{List, [], _∷_, _++_, List·Memᴰ, List·Memᴰ·head, List·Memᴰ·tail, List·Memᴰ·cases-cons, List·Memᴰ·not-nil}
+use mathlib.Core.Bool.{Bool, true, false, cond, not, _&&_}
+use mathlib.Core.List.{List, [], _∷_, _++_, List·Memᴰ·head, List·Memᴰ·tail}
 use native.Mathlib.Omega.{arith}
-use borrow.Author.Tests.{eq-eqb, ne-eqb, not-false}
+use borrow.Author.Tests.{not-false}
 use Rattle.surface.specs.Plot.{Plot, below, reversed, directed, PostOf}
-use Rattle.surface.specs.Edges.{lowerOf, throughLowest, lowest, Place, place, top, bottom, left, right, isBorder, fallsIn}
+use Rattle.surface.specs.Edges.{lowerOf, throughLowest, Place, place, top, left, isBorder, fallsIn}
 use Rattle.surface.specs.Spacings.{Spaced}
 use Rattle.surface.specs.Lines.{next, toward}
 use Rattle.surface.specs.declared.Spacings.{Spacings}
 use Rattle.surface.specs.Lists.{flipped}
-use Rattle.surface.proofs.General.Bools.{either, or-left, or-right}
+use Rattle.surface.proofs.General.Bools.{either}
 use Rattle.surface.proofs.AnyOrder.Grid.{top-false, not-left}
 use Rattle.surface.proofs.AnyOrder.Locality.{read-agree}
 use Rattle.surface.proofs.General.Order.{StrictTotal}
-use Rattle.surface.proofs.AnyOrder.Lowest.{lowest-member, lowest-least}
 use Rattle.post.specs.Corners.{bordersOf, cornersOf}
 use Rattle.post.specs.declared.border.Borders.{Borders}
 use Rattle.post.specs.declared.corner.Corners.{Corners}
 use Rattle.post.proofs.Around.{north-west}
-use Rattle.next.specs.Scan.{inside, cells, step, scan, turn, cornersLower}
+use Rattle.keys.specs.Keys.{cells}
+use Rattle.next.specs.Scan.{step, scan, turn, cornersLower}
 use Rattle.next.proofs.Onward.{onward, onward-strict, onward-own}
 use Rattle.next.proofs.Scanned.{to-front, next-is, toward-strict}
-use Rattle.next.proofs.Nine.{n-there, ne-there, e-there, se-there, s-there, sw-there, w-there, nw-there}
+use Rattle.keys.proofs.Nine.{n-there, ne-there, e-there, se-there, s-there, sw-there, w-there, nw-there}
 use Rattle.next.proofs.Distances.{nearer-ahead}
+use Rattle.next.proofs.Cells.{rising, falling, from-nw, from-ne, from-sw, from-se}
 
 -- a scan, in any order
 module _ (lower : ℕ → ℕ → Bool) (o : StrictTotal lower) where
@@ -56,160 +56,8 @@ module _ (lower : ℕ → ℕ → Bool) (o : StrictTotal lower) where
   free-off false true x q u k m h = refl
   free-off false false x q u k m h = free x q u k m (h refl refl)
 
--- cells, and the diagonals through their lowest posts
+-- round a post, with the diagonals through the lowest posts of cells
 module _ (lower : ℕ → ℕ → Bool) (o : StrictTotal lower) where
-  asym : (a b : ℕ) → lower a b ≡ true → lower b a ≡ false
-  asym a b h = either (lower b a) (λ e. absurd (true≢false (sym (o .trans a b a h e) ∙ o .irrefl a))) (λ e. e)
-
-  module _ (columns a : ℕ) (wide : 2 ≤ columns) where
-    abbrev cell : List ℕ
-    cell = a ∷ (a + 1) ∷ (a + columns) ∷ (a + columns + 1) ∷ []
-
-    abbrev low : ℕ
-    low = lowest lower cell
-
-    one-of : {A : Type 0} → (low ≡ a → A) → (low ≡ a + 1 → A) → (low ≡ a + columns → A) → (low ≡ a + columns + 1 → A) → A
-    one-of f g h k =
-        ⊎-elim f
-        (λ (i : List·Memᴰ low ((a + 1) ∷ (a + columns) ∷ (a + columns + 1) ∷ [])).
-        ⊎-elim g
-        (λ (j : List·Memᴰ low ((a + columns) ∷ (a + columns + 1) ∷ [])).
-        ⊎-elim h
-        (λ (l : List·Memᴰ low ((a + columns + 1) ∷ [])).
-        ⊎-elim k (λ (n : List·Memᴰ low []). absurd (List·Memᴰ·not-nil n)) (List·Memᴰ·cases-cons l))
-        (List·Memᴰ·cases-cons j))
-        (List·Memᴰ·cases-cons i))
-        (List·Memᴰ·cases-cons (lowest-member lower a cell (List·Memᴰ·head refl)))
-
-    -- the lowest, b, is below any other
-    under : (b q : ℕ) → low ≡ b → List·Memᴰ q cell → (q ≡ b → ⊥) → lower b q ≡ true
-    under b q i m h =
-        ap (λ (z : ℕ). lower z q) (sym i) ∙ o .other q low (λ j. h (j ∙ i)) ∙ ap not (lowest-least lower o cell q m)
-
-    -- the diagonal, by which post is the lowest
-    told-nw : low ≡ a → throughLowest lower columns a ≡ true
-    unfolding throughLowest
-    told-nw i = rw (eq-eqb low a i)
-
-    told-ne : low ≡ a + 1 → throughLowest lower columns a ≡ false
-    unfolding throughLowest
-    told-ne i = rw (i, ne-eqb (a + 1) a (omega arith), ne-eqb (a + 1) (a + columns + 1) (omega arith))
-
-    told-sw : low ≡ a + columns → throughLowest lower columns a ≡ false
-    unfolding throughLowest
-    told-sw i = rw (i, ne-eqb (a + columns) a (omega arith), ne-eqb (a + columns) (a + columns + 1) (omega arith))
-
-    told-se : low ≡ a + columns + 1 → throughLowest lower columns a ≡ true
-    unfolding throughLowest
-    told-se i = rw (eq-eqb low (a + columns + 1) i, or-true)
-
-    -- a corner of the other diagonal has an end of this one below it
-    rising : {A : Type 0} (q : ℕ) → throughLowest lower columns a ≡ false → List·Memᴰ q cell → (q ≡ a + 1 → ⊥) → (q ≡ a + columns → ⊥)
-        → (lower (a + 1) q ≡ true → A) → (lower (a + columns) q ≡ true → A) → A
-    rising q e m f g ne sw =
-        one-of
-        (λ i. absurd (true≢false (sym (told-nw i) ∙ e)))
-        (λ i. ne (under (a + 1) q i m f))
-        (λ i. sw (under (a + columns) q i m g))
-        (λ i. absurd (true≢false (sym (told-se i) ∙ e)))
-
-    falling : {A : Type 0} (q : ℕ) → throughLowest lower columns a ≡ true → List·Memᴰ q cell → (q ≡ a → ⊥) → (q ≡ a + columns + 1 → ⊥)
-        → (lower a q ≡ true → A) → (lower (a + columns + 1) q ≡ true → A) → A
-    falling q e m f g nw se =
-        one-of
-        (λ i. nw (under a q i m f))
-        (λ i. absurd (true≢false (sym e ∙ told-ne i)))
-        (λ i. absurd (true≢false (sym e ∙ told-sw i)))
-        (λ i. se (under (a + columns + 1) q i m g))
-
-    -- p and q stand across the cell from each other; x and y are the other two
-    record Across (p q x y : ℕ) : Type 0 where
-      pub p-in : List·Memᴰ p cell
-      pub x-in : List·Memᴰ x cell
-      pub y-in : List·Memᴰ y cell
-      pub x-other : x ≡ p → ⊥
-      pub y-other : y ≡ p → ⊥
-      pub one : (low ≡ p) ⊎ ((low ≡ q) ⊎ ((low ≡ x) ⊎ (low ≡ y)))
-
-    -- where q is above p, they are joined exactly where both x and y are above p
-    joined-above : {p q x y : ℕ} (c : Across p q x y) (t : Bool) → (low ≡ p → t ≡ true) → (low ≡ x → t ≡ false) → (low ≡ y → t ≡ false)
-        → lower p q ≡ true → t ≡ lower p x && lower p y
-    joined-above {p} {q} {x} {y} c t tp tx ty h =
-        ⊎-elim (λ (i : low ≡ p). tp i ∙ rw (under p x i (c .x-in) (c .x-other), under p y i (c .y-in) (c .y-other)))
-        (λ (r : (low ≡ q) ⊎ ((low ≡ x) ⊎ (low ≡ y))).
-        ⊎-elim
-        (λ (i : low ≡ q). absurd (true≢false (sym h ∙ asym q p (under q p i (c .p-in) (λ e. true≢false (sym h ∙ ap (lower p) (sym e) ∙ o .irrefl p))))))
-        (λ (r : (low ≡ x) ⊎ (low ≡ y)).
-        ⊎-elim (λ (i : low ≡ x). tx i ∙ rw (asym x p (under x p i (c .p-in) (λ e. c .x-other (sym e)))))
-        (λ (i : low ≡ y). ty i ∙ rw (asym y p (under y p i (c .p-in) (λ e. c .y-other (sym e))), and-false)) r)
-        r)
-        (c .one)
-
-    in-nw : List·Memᴰ a cell
-    in-nw = List·Memᴰ·head refl
-
-    in-ne : List·Memᴰ (a + 1) cell
-    in-ne = List·Memᴰ·tail (List·Memᴰ·head refl)
-
-    in-sw : List·Memᴰ (a + columns) cell
-    in-sw = List·Memᴰ·tail (List·Memᴰ·tail (List·Memᴰ·head refl))
-
-    in-se : List·Memᴰ (a + columns + 1) cell
-    in-se = List·Memᴰ·tail (List·Memᴰ·tail (List·Memᴰ·tail (List·Memᴰ·head refl)))
-
-    -- from each post of the cell to the one across
-    from-nw : lower a (a + columns + 1) ≡ true → throughLowest lower columns a ≡ lower a (a + 1) && lower a (a + columns)
-    from-nw =
-        joined-above
-        (record {
-          p-in = in-nw;
-          x-in = in-ne;
-          y-in = in-sw;
-          x-other = λ e. omega arith;
-          y-other = λ e. omega arith;
-          one = one-of inl (λ i. inr (inr (inl i))) (λ i. inr (inr (inr i))) (λ i. inr (inl i));
-        })
-        _ told-nw told-ne told-sw
-
-    from-ne : lower (a + 1) (a + columns) ≡ true → not (throughLowest lower columns a) ≡ lower (a + 1) (a + columns + 1) && lower (a + 1) a
-    from-ne =
-        joined-above
-        (record {
-          p-in = in-ne;
-          x-in = in-se;
-          y-in = in-nw;
-          x-other = λ e. omega arith;
-          y-other = λ e. omega arith;
-          one = one-of (λ i. inr (inr (inr i))) inl (λ i. inr (inl i)) (λ i. inr (inr (inl i)));
-        })
-        _ (λ i. ap not (told-ne i)) (λ i. ap not (told-se i)) (λ i. ap not (told-nw i))
-
-    from-sw : lower (a + columns) (a + 1) ≡ true → not (throughLowest lower columns a) ≡ lower (a + columns) a && lower (a + columns) (a + columns + 1)
-    from-sw =
-        joined-above
-        (record {
-          p-in = in-sw;
-          x-in = in-nw;
-          y-in = in-se;
-          x-other = λ e. omega arith;
-          y-other = λ e. omega arith;
-          one = one-of (λ i. inr (inr (inl i))) (λ i. inr (inl i)) inl (λ i. inr (inr (inr i)));
-        })
-        _ (λ i. ap not (told-sw i)) (λ i. ap not (told-nw i)) (λ i. ap not (told-se i))
-
-    from-se : lower (a + columns + 1) a ≡ true → throughLowest lower columns a ≡ lower (a + columns + 1) (a + columns) && lower (a + columns + 1) (a + 1)
-    from-se =
-        joined-above
-        (record {
-          p-in = in-se;
-          x-in = in-sw;
-          y-in = in-ne;
-          x-other = λ e. omega arith;
-          y-other = λ e. omega arith;
-          one = one-of (λ i. inr (inl i)) (λ i. inr (inr (inr i))) (λ i. inr (inr (inl i))) inl;
-        })
-        _ told-se told-sw told-ne
-
   -- round p, in an order of scanning
   module _ (columns p : ℕ) (wide : 2 ≤ columns) (ahead : ℕ → ℕ → Bool) (oa : StrictTotal ahead) where
     -- upward a place's flag matters only where its post is above p
@@ -231,19 +79,19 @@ module _ (lower : ℕ → ℕ → Bool) (o : StrictTotal lower) where
     ne-above far h =
         let e : p - columns + columns ≡ p = omega arith in
         let q : p - columns + 1 ≡ p - (columns - 1) = omega arith in
-        rw e at (from-sw columns (p - columns) wide (rw (e, q) h))
+        rw e at (from-sw lower o columns (p - columns) wide (rw (e, q) h))
 
     se-above : lower p (p + (columns + 1)) ≡ true → throughLowest lower columns p ≡ lower p (p + 1) && lower p (p + columns)
     se-above h =
         let q : p + columns + 1 ≡ p + (columns + 1) = omega arith in
-        from-nw columns p wide (rw q h)
+        from-nw lower o columns p wide (rw q h)
 
     sw-above : 1 ≤ p → lower p (p + (columns - 1)) ≡ true → not (throughLowest lower columns (p - 1)) ≡ lower p (p + columns) && lower p (p - 1)
     sw-above far h =
         let e : p - 1 + 1 ≡ p = omega arith in
         let q : p - 1 + columns ≡ p + (columns - 1) = omega arith in
         let s : p + (columns - 1) + 1 ≡ p + columns = omega arith in
-        rw (e, q, s) at (from-ne columns (p - 1) wide (rw (e, q) h))
+        rw (e, q, s) at (from-ne lower o columns (p - 1) wide (rw (e, q) h))
 
     nw-above : columns + 1 ≤ p → lower p (p - (columns + 1)) ≡ true → throughLowest lower columns (p - columns - 1) ≡ lower p (p - 1) && lower p (p - columns)
     nw-above far h =
@@ -251,7 +99,7 @@ module _ (lower : ℕ → ℕ → Bool) (o : StrictTotal lower) where
         let q : p - columns - 1 ≡ p - (columns + 1) = omega arith in
         let n : p - columns - 1 + 1 ≡ p - columns = omega arith in
         let w : p - columns - 1 + columns ≡ p - 1 = omega arith in
-        rw (e, n, w) at (from-se columns (p - columns - 1) wide (rw (e, q) h))
+        rw (e, n, w) at (from-se lower o columns (p - columns - 1) wide (rw (e, q) h))
 
     -- round a post at these borders
     module _ (at : Borders) (north : at .top ≡ false → columns ≤ p) (west : at .left ≡ false → 1 ≤ p) (northWest : at .left ≡ false → at .top ≡ false → columns + 1 ≤ p) where
@@ -302,27 +150,27 @@ module _ (lower : ℕ → ℕ → Bool) (o : StrictTotal lower) where
             (λ i j t.
             let far : columns ≤ p = north i in
             rw (i, j)
-            (falling columns (p - columns) wide (p - (columns - 1)) (told _ true (not-false _ t)) (List·Memᴰ·tail (List·Memᴰ·head (omega arith))) (λ x. omega arith) (λ x. omega arith)
+            (falling lower o columns (p - columns) wide (p - (columns - 1)) (told _ true (not-false _ t)) (List·Memᴰ·tail (List·Memᴰ·head (omega arith))) (λ x. omega arith) (λ x. omega arith)
             (λ h. unseen ahead oa p (p - columns) (p - (columns - 1)) [] _ (hides .n-ne i j h))
             (λ h. unseen ahead oa p (p + 1) (p - (columns - 1)) (place true (p - columns) ∷ []) _ (hides .e-ne i j (named _ (p + 1) _ (omega arith) h)))))
             ∙ free-off ahead oa (at .right) (at .bottom) p (p + (columns + 1)) _ (n ∷ place _ (p - (columns - 1)) ∷ e ∷ []) _
             (λ i j t.
             rw (i, j)
-            (rising columns p wide (p + (columns + 1)) (told _ false t) (List·Memᴰ·tail (List·Memᴰ·tail (List·Memᴰ·tail (List·Memᴰ·head (omega arith))))) (λ x. omega arith) (λ x. omega arith)
+            (rising lower o columns p wide (p + (columns + 1)) (told _ false t) (List·Memᴰ·tail (List·Memᴰ·tail (List·Memᴰ·tail (List·Memᴰ·head (omega arith))))) (λ x. omega arith) (λ x. omega arith)
             (λ h. unseen ahead oa p (p + 1) (p + (columns + 1)) (n ∷ place _ (p - (columns - 1)) ∷ []) _ (hides .e-se i j h))
             (λ h. unseen ahead oa p (p + columns) (p + (columns + 1)) (n ∷ place _ (p - (columns - 1)) ∷ place true (p + 1) ∷ []) _ (hides .s-se i j h))))
             ∙ free-off ahead oa (at .bottom) (at .left) p (p + (columns - 1)) _ (n ∷ place _ (p - (columns - 1)) ∷ e ∷ place _ (p + (columns + 1)) ∷ s ∷ []) _
             (λ i j t.
             let far : 1 ≤ p = west j in
             rw (i, j)
-            (falling columns (p - 1) wide (p + (columns - 1)) (told _ true (not-false _ t)) (List·Memᴰ·tail (List·Memᴰ·tail (List·Memᴰ·head (omega arith)))) (λ x. omega arith) (λ x. omega arith)
+            (falling lower o columns (p - 1) wide (p + (columns - 1)) (told _ true (not-false _ t)) (List·Memᴰ·tail (List·Memᴰ·tail (List·Memᴰ·head (omega arith)))) (λ x. omega arith) (λ x. omega arith)
             (λ h. unseen ahead oa p (p - 1) (p + (columns - 1)) (n ∷ place _ (p - (columns - 1)) ∷ e ∷ place _ (p + (columns + 1)) ∷ place true (p + columns) ∷ []) _ (hides .w-sw i j h))
             (λ h. unseen ahead oa p (p + columns) (p + (columns - 1)) (n ∷ place _ (p - (columns - 1)) ∷ e ∷ place _ (p + (columns + 1)) ∷ []) _ (hides .s-sw i j (named _ (p + columns) _ (omega arith) h)))))
             ∙ free-off ahead oa (at .left) (at .top) p (p - (columns + 1)) _ (n ∷ place _ (p - (columns - 1)) ∷ e ∷ place _ (p + (columns + 1)) ∷ s ∷ place _ (p + (columns - 1)) ∷ w ∷ []) _
             (λ i j t.
             let far : columns + 1 ≤ p = northWest i j in
             rw (i, j)
-            (rising columns (p - columns - 1) wide (p - (columns + 1)) (told _ false t) (List·Memᴰ·head (omega arith)) (λ x. omega arith) (λ x. omega arith)
+            (rising lower o columns (p - columns - 1) wide (p - (columns + 1)) (told _ false t) (List·Memᴰ·head (omega arith)) (λ x. omega arith) (λ x. omega arith)
             (λ h. unseen ahead oa p (p - columns) (p - (columns + 1)) [] _ (hides .n-nw i j (named _ (p - columns) _ (omega arith) h)))
             (λ h. unseen ahead oa p (p - 1) (p - (columns + 1)) (place true (p - columns) ∷ place _ (p - (columns - 1)) ∷ e ∷ place _ (p + (columns + 1)) ∷ s ∷ place _ (p + (columns - 1)) ∷ []) _ (hides .w-nw i j (named _ (p - 1) _ (omega arith) h)))))
 
@@ -395,20 +243,3 @@ module _ {pl : Plot} {p : ℕ} (post : PostOf pl p) where
         go true false e = corners-above (below pl) (toward-strict false pl) pl.columns p wide (ahead true) (ahead-strict true) at north west corner (fallsIn pl) (cut false e) (own true)
         go false true e = corners-above (reversed (below pl)) (toward-strict true pl) pl.columns p wide (ahead false) (ahead-strict false) at north west corner (fallsIn pl) (cut true e) (own false)
         go false false e = every-corner (below pl) (toward-strict false pl) pl.columns p wide (ahead false) (ahead-strict false) at north west corner (fallsIn pl) (cut false e) (hides false)
-
-  -- on no border
-  pub record Off : Type 0 where
-    pub top : top pl.columns p ≡ false
-    pub right : right pl.columns p ≡ false
-    pub bottom : bottom pl.rows pl.columns p ≡ false
-    pub left : left pl.columns p ≡ false
-
-  module _ (border : isBorder pl.rows pl.columns p ≡ false) where
-    pub off-borders : Off
-    off-borders =
-        let r = or-right (top pl.columns p) _ border in
-        let b = or-right (right pl.columns p) _ r in
-        record { top = or-left _ _ border; right = or-left _ _ r; bottom = or-left _ _ b; left = or-right (bottom pl.rows pl.columns p) _ b }
-
-    pub inside-at : at ≡ inside
-    inside-at = rw (off-borders .top, off-borders .right, off-borders .bottom, off-borders .left)

@@ -5,8 +5,8 @@ use native.Mathlib.Omega.{arith}
 use native.Mathlib.Nat.{mul-le-mul}
 use native.Mathlib.Decide.{ℕ-discrete}
 use mathlib.Core.Path.{_≡_, refl, sym, ap, _∙_}
-use mathlib.Core.Logic.{_⊎_, ⊎-elim, inl, inr}
-use mathlib.Core.Bool.{Bool, true, false, cond, not, true≢false}
+use mathlib.Core.Logic.{_⊎_, inl, inr}
+use mathlib.Core.Bool.{Bool, true, false, cond, true≢false}
 use lib.Dec.{eqb}
 use lib.IntN.{pos}
 use lib.Signed.{ltZ, mag}
@@ -22,8 +22,8 @@ use Rattle.surface.proofs.General.Order.{StrictTotal}
 use Rattle.surface.proofs.OfPlots.HeightOrder.{below-strict, height-below}
 use Rattle.surface.proofs.OfPlots.Counted.{counted, counted-less, counted-apart, height-mag}
 use Rattle.order.specs.Ties.{Stands}
-use Rattle.next.specs.Keys.{There}
-use Rattle.next.proofs.Onward.{fallTo, onward, onward-strict, onward-own, own-onward, nearer-first, same-distance}
+use Rattle.keys.specs.Keys.{There}
+use Rattle.next.proofs.Onward.{fallTo, onward, onward-own, own-onward, nearer-first, same-distance}
 use Rattle.next.proofs.Scanned.{toward-strict}
 
 -- the squared length of an edge, by where its other end stands

@@ -1,29 +1,23 @@
 -- Comparing keys is comparing posts, so the steepest key round a post is that of its next post.
-use Prim.Native.Nat.{ℕ, suc, _+_, _-_, _*_, _%_, _<_, _≤_}
+use Prim.Native.Nat.{ℕ, _+_, _-_, _*_, _%_, _<_, _≤_}
 use mathlib.Core.Path.{_≡_, refl, sym, ap, _∙_}
-use mathlib.Core.Bool.{Bool, true, false, cond, not, _&&_, _||_, true≢false}
-use mathlib.Core.Logic.{_⊎_, inl, inr}
-use mathlib.Core.List.{List, [], _∷_, _++_}
+use mathlib.Core.Bool.{Bool, true, false, cond, not, _&&_, true≢false}
+use mathlib.Core.Logic.{inl, inr}
+use mathlib.Core.List.{List, [], _∷_}
 use native.Mathlib.Omega.{arith}
 use native.Mathlib.Nat.{mul-pos}
 use native.Mathlib.Decide.{ℕ-discrete}
-use lib.Dec.{ltb}
-use lib.IntN.{ℤ, pos, negsuc, natAbs, _-ℤ_, _*ℤ_, +ℤ-idr, +ℤ-invr}
-use mir.Syntax.{w32}
-use mir.Val.{SFits, toZ, ofZ}
-use mir.Facts.{toZ-ofZ}
-use borrow.Author.Needs.{sfits-of}
-use lib.Signed.{ltZ, mag}
-use borrow.Author.Tests.{ltb-true, ltb-false, lt-ltb, le-ltb, not-true}
+use lib.IntN.{ℤ, pos, natAbs, _-ℤ_, +ℤ-invr}
+use lib.Signed.{ltZ}
+use borrow.Author.Tests.{not-true}
 use Rattle.surface.specs.Plot.{Plot, below, directed, isHeight, height, virtualPit, Sides, PostOf}
-use Rattle.surface.specs.Edges.{lowerOf, Place, place, isBorder, top, bottom, left, right}
+use Rattle.surface.specs.Edges.{lowerOf, Place, isBorder, top, bottom, left, right}
 use Rattle.surface.specs.Spacings.{Spaced}
 use Rattle.surface.specs.Lines.{squared, squaredLength, squaredDrop, next, toward}
 use Rattle.surface.specs.declared.Spacings.{Spacings}
 use Rattle.surface.specs.Lists.{flipped}
-use Rattle.surface.proofs.General.Bools.{either, and-left}
+use Rattle.surface.proofs.General.Bools.{either}
 use Rattle.surface.proofs.General.FirstNot.{all-at}
-use Rattle.surface.proofs.General.Order.{StrictTotal}
 use Rattle.surface.proofs.OfPlots.HeightOrder.{below-lex}
 use Rattle.surface.proofs.OfPlots.Steepest.{length-some}
 use Rattle.order.specs.Ties.{Near, tiePlace}
@@ -31,163 +25,26 @@ use Rattle.order.proofs.Places.{number-tells, place-small, place-driven}
 use Rattle.post.specs.declared.border.Borders.{Borders}
 use Rattle.post.specs.declared.corner.Corners.{Corners}
 use Rattle.post.specs.Corners.{bordersOf}
-use Rattle.post.proofs.Around.{both-false as both}
-use Rattle.next.specs.declared.key.Block.{Block}
-use Rattle.next.specs.Scan.{inside, cells, step, scan, turn, cornersLower}
-use Rattle.next.specs.Keys.{There, keyBy, keyOf, isKey, numberIn, blockOf, cornersKept, farther, farthest, heightIn, dropIn, overtakes, steepestAmong, steepestIn, steepestOf}
+use Rattle.post.proofs.Around.{both-false}
+use Rattle.keys.specs.declared.Block.{Block}
+use Rattle.next.specs.Scan.{scan, turn, cornersLower}
+use Rattle.keys.specs.Keys.{There, inside, cells, keyOf, isKey, numberIn, blockOf}
+use Rattle.steepest.specs.Slopes.{cornersKept, farther, farthest, dropIn, overtakes, steepestAmong, steepestIn, steepestOf}
 use Rattle.next.proofs.Onward.{fallTo, onward, onward-strict}
-use Rattle.next.proofs.Scanned.{to-front, scan-joins, scan-low, AllIn, all-in, scan-holds, scan-agree, toward-strict}
+use Rattle.next.proofs.Scanned.{scan-low, AllIn, all-in, scan-holds, scan-agree, toward-strict}
 use Rattle.next.proofs.Distances.{lengthAt, length-stands, Group, group-agree}
-use Rattle.next.proofs.Corners.{next-block, inside-at}
-use Rattle.next.proofs.Nine.{there-near, own-there, n-there, ne-there, e-there, se-there, s-there, sw-there, w-there, nw-there}
-
--- ---- keys as numbers
-
--- a key of a negative height
-key-negative : (n i : ℕ) → i < 2048 → keyBy (negsuc n) i ≡ negsuc (n * 2048 + (2047 - i))
-key-negative n i h =
-    let e : suc n * 2048 ≡ suc (n * 2048 + 2047) = omega arith in
-    let f : suc (n * 2048 + 2047) - suc i ≡ n * 2048 + (2047 - i) = omega arith in
-    rw (e, lt-ltb i (suc (n * 2048 + 2047)) (omega arith)) (ap negsuc f)
-
--- of two keys, by the heights and then by the places
-by-height : (a b i j : ℕ) → i < 2048 → j < 2048 → ltb (a * 2048 + i) (b * 2048 + j) ≡ ltb a b || (not (ltb b a) && ltb i j)
-by-height a b i j h k =
-    either (ltb a b) (λ e. rw e (lt-ltb (a * 2048 + i) (b * 2048 + j) (omega (arith, ltb-true a b e))))
-    (λ e.
-    either (ltb b a) (λ f. rw (e, f) (le-ltb (a * 2048 + i) (b * 2048 + j) (omega (arith, ltb-true b a f))))
-    (λ f.
-    let g : a ≡ b = omega (arith, ltb-false a b e, ltb-false b a f) in
-    rw (e, f) (either (ltb i j) (λ l. rw l (lt-ltb (a * 2048 + i) (b * 2048 + j) (omega (arith, ltb-true i j l)))) (λ l. rw l (le-ltb (a * 2048 + i) (b * 2048 + j) (omega (arith, ltb-false i j l)))))))
-
-turned-less : (i j : ℕ) → i < 2048 → j < 2048 → ltb (2047 - j) (2047 - i) ≡ ltb i j
-turned-less i j h k = either (ltb i j) (λ e. rw e (lt-ltb (2047 - j) (2047 - i) (omega (arith, ltb-true i j e)))) (λ e. rw e (le-ltb (2047 - j) (2047 - i) (omega (arith, ltb-false i j e))))
-
-key-order : (a b : ℤ) (i j : ℕ) → i < 2048 → j < 2048 → ltZ (keyBy a i) (keyBy b j) ≡ ltZ a b || (not (ltZ b a) && ltb i j)
-key-order (pos a) (pos b) i j h k = by-height a b i j h k
-key-order (pos a) (negsuc b) i j h k = rw (key-negative b j k)
-key-order (negsuc a) (pos b) i j h k = rw (key-negative a i h)
-key-order (negsuc a) (negsuc b) i j h k =
-    rw (key-negative a i h, key-negative b j k, sym (turned-less i j h k)) (by-height b a (2047 - j) (2047 - i) (omega arith) (omega arith))
-
--- its last eight binary digits are those of the place, and no key is below that of the lowest height
-key-digits : (a : ℤ) (i : ℕ) → i < 2048 → numberIn (keyBy a i) ≡ i % 256
-unfolding numberIn
-key-digits (pos n) i h = omega arith
-key-digits (negsuc n) i h = rw (key-negative n i h) (omega arith)
-
-key-low : (a : ℤ) (i : ℕ) → i < 2048 → isHeight a ≡ true → isKey (keyBy a i) ≡ true
-key-low (pos n) i h e = refl
-key-low (negsuc n) i h e =
-    rw (key-negative n i h) (ap not (le-ltb 2047999999 (n * 2048 + (2047 - i)) (omega (arith, ltb-false 999999 n (not-true _ (and-left _ _ e))))))
-
--- a key tells its height
-key-height : (a : ℤ) (i : ℕ) → i < 2048 → heightIn (keyBy a i) ≡ a
-key-height (pos n) i h = ap pos (omega arith)
-key-height (negsuc n) i h = rw (key-negative n i h) (ap negsuc (omega arith))
-
--- a key fits 32 bits, and so does its height's part
-pub key-fits : (a : ℤ) (i : ℕ) → i < 2048 → isHeight a ≡ true → SFits w32 (keyBy a i)
-key-fits (pos n) i h e = record { sfits = omega (arith, ltb-false 1000000 n (not-true _ e)) }
-key-fits (negsuc n) i h e = rw (key-negative n i h) (record { sfits = omega (arith, ltb-false 999999 n (not-true _ (and-left _ _ e))) })
-
-pub part-fits : (a : ℤ) → isHeight a ≡ true → SFits w32 (a *ℤ pos 2048)
-part-fits a e = rw (+ℤ-idr (a *ℤ pos 2048)) at (key-fits a 0 (omega arith) e)
-
--- a key that a local holds is told by its bits
-pub bits-of : (k : ℤ) → mag k < 2147483648 → toZ w32 (ofZ w32 k) ≡ k
-bits-of k h = toZ-ofZ (sfits-of h)
-
--- two blocks of the same keys
-pub same-block : (p n ne e se s sw w nw p′ n′ ne′ e′ se′ s′ sw′ w′ nw′ : ℤ)
-    → p ≡ p′ → n ≡ n′ → ne ≡ ne′ → e ≡ e′ → se ≡ se′ → s ≡ s′ → sw ≡ sw′ → w ≡ w′ → nw ≡ nw′
-    → _≡_ {A = Block}
-    (record { post = p; n = n; ne = ne; e = e; se = se; s = s; sw = sw; w = w; nw = nw })
-    (record { post = p′; n = n′; ne = ne′; e = e′; se = se′; s = s′; sw = sw′; w = w′; nw = nw′ })
-same-block p n ne e se s sw w nw p′ n′ ne′ e′ se′ s′ sw′ w′ nw′ h1 h2 h3 h4 h5 h6 h7 h8 h9 = rw (h1, h2, h3, h4, h5, h6, h7, h8, h9)
+use Rattle.next.proofs.Corners.{next-block}
+use Rattle.next.proofs.Groups.{Within, cells-within, lower-within, rowPlaces, columnPlaces, cornerPlaces, by-groups, SameLength, weighed}
+use Rattle.keys.proofs.KeyNumbers.{key-order, key-digits, key-low, key-height}
+use Rattle.keys.proofs.Nine.{inside-at, there-near, own-there, n-there, ne-there, e-there, se-there, s-there, sw-there, w-there, nw-there}
 
 level : (g : Bool) (k : ℤ) → cond g k k ≡ k
 level true k = refl
 level false k = refl
 
--- ---- the posts round p that are there are of the nine
-
+-- the posts round p that are there are of the nine
 abbrev AllNear : ℕ → ℕ → List Place → Type 0
 AllNear columns p = AllIn (Near columns p)
-
--- corners whose cells are there
-record Within (at : Borders) (joined : Corners) : Type 0 where
-  pub ne : joined .ne ≡ true → cells at .ne ≡ true
-  pub se : joined .se ≡ true → cells at .se ≡ true
-  pub sw : joined .sw ≡ true → cells at .sw ≡ true
-  pub nw : joined .nw ≡ true → cells at .nw ≡ true
-
-cells-within : (at : Borders) → Within at (cells at)
-cells-within at = record { ne = λ h. h; se = λ h. h; sw = λ h. h; nw = λ h. h }
-
-first-two : (a b c : Bool) → a && (b && c) ≡ true → a && b ≡ true
-first-two true true c h = refl
-first-two true false c h = h
-first-two false b c h = h
-
-lower-within : (lower : ℕ → ℕ → Bool) (columns p : ℕ) (at : Borders) → Within at (cornersLower lower columns p at)
-lower-within lower columns p at =
-    record {
-      ne = first-two (not (at .top)) (not (at .right)) _;
-      se = first-two (not (at .right)) (not (at .bottom)) _;
-      sw = first-two (not (at .bottom)) (not (at .left)) _;
-      nw = first-two (not (at .left)) (not (at .top)) _;
-    }
-
--- the places round p along the row, along the column and across cells
-abbrev rowPlaces : ℕ → Borders → List Place
-rowPlaces p at = place (not (at .right)) (p + 1) ∷ place (not (at .left)) (p - 1) ∷ []
-
-abbrev columnPlaces : ℕ → ℕ → Borders → List Place
-columnPlaces columns p at = place (not (at .top)) (p - columns) ∷ place (not (at .bottom)) (p + columns) ∷ []
-
-abbrev cornerPlaces : ℕ → ℕ → Corners → List Place
-cornerPlaces columns p joined =
-    place (joined .ne) (p - (columns - 1))
-    ∷ place (joined .se) (p + (columns + 1))
-    ∷ place (joined .sw) (p + (columns - 1))
-    ∷ place (joined .nw) (p - (columns + 1))
-    ∷ []
-
--- a scan of all of them: the first of what is found in each
-by-groups : (f : ℕ → ℕ → Bool) → StrictTotal f → (columns p : ℕ) (at : Borders) (joined : Corners)
-    → scan f p (turn columns p at joined)
-    ≡ lowerOf f (lowerOf f (scan f p (rowPlaces p at)) (scan f p (columnPlaces columns p at))) (scan f p (cornerPlaces columns p joined))
-unfolding scan
-by-groups f o columns p at joined =
-    let n = place (not (at .top)) (p - columns) in
-    let e = place (not (at .right)) (p + 1) in
-    let s = place (not (at .bottom)) (p + columns) in
-    let w = place (not (at .left)) (p - 1) in
-    let ne = place (joined .ne) (p - (columns - 1)) in
-    let se = place (joined .se) (p + (columns + 1)) in
-    let sw = place (joined .sw) (p + (columns - 1)) in
-    let nw = place (joined .nw) (p - (columns + 1)) in
-    to-front f o p (n ∷ ne ∷ []) e (se ∷ s ∷ sw ∷ w ∷ nw ∷ [])
-    ∙ to-front f o (step f p e) (n ∷ ne ∷ se ∷ s ∷ sw ∷ []) w (nw ∷ [])
-    ∙ to-front f o (step f (step f (step f p e) w) n) (ne ∷ se ∷ []) s (sw ∷ nw ∷ [])
-    ∙ scan-joins f o p (rowPlaces p at ++ columnPlaces columns p at) (cornerPlaces columns p joined)
-    ∙ ap (λ (z : ℕ). lowerOf f z (scan f p (cornerPlaces columns p joined))) (scan-joins f o p (rowPlaces p at) (columnPlaces columns p at))
-
--- products that tell the same where an edge has another length: where nothing falls along it
-SameLength : ℕ → ℕ → ℕ → Type 0
-SameLength f l m = (l ≡ m) ⊎ ((f ≡ 0) × (0 < l) × (0 < m))
-
-weighed : (f g l m l′ m′ : ℕ) → SameLength f l l′ → SameLength g m m′ → ltb (f * m) (g * l) ≡ ltb (f * m′) (g * l′)
-unfolding SameLength
-weighed f g l m l′ m′ (inl a) (inl b) = rw (a, b)
-weighed f g l m l′ m′ (inl a) (inr b) = rw (b .0, le-ltb (f * m) (0 * l) (omega arith), le-ltb (f * m′) (0 * l′) (omega arith))
-weighed f g l m l′ m′ (inr a) (inl b) =
-    rw (a .0)
-    (either (ltb 0 g)
-    (λ e. let h = ltb-true 0 g e in lt-ltb (0 * m) (g * l) (omega (arith, mul-pos h (a .1))) ∙ sym (lt-ltb (0 * m′) (g * l′) (omega (arith, mul-pos h (a .2)))))
-    (λ e. let h : g ≡ 0 = omega (arith, ltb-false 0 g e) in rw (h, le-ltb (0 * m) (0 * l) (omega arith), le-ltb (0 * m′) (0 * l′) (omega arith))))
-weighed f g l m l′ m′ (inr a) (inr b) = rw (a .0, b .0, le-ltb (0 * m) (0 * l) (omega arith), le-ltb (0 * m′) (0 * l′) (omega arith))
 
 module _ (pl : Plot) (p : ℕ) where
   abbrev key : ℕ → ℤ
@@ -408,12 +265,12 @@ module _ {pl : Plot} {p : ℕ} (post : PostOf pl p) (spacings : Spacings) (space
         let r = right pl.columns p in
         let b = bottom pl.rows pl.columns p in
         let l = left pl.columns p in (
-          λ h. let k = both t r (w .ne h) in at-group _ _ 0 2 (ne-there post (k .0) (k .1)) refl refl,
+          λ h. let k = both-false t r (w .ne h) in at-group _ _ 0 2 (ne-there post (k .0) (k .1)) refl refl,
           (
-            λ h. let k = both r b (w .se h) in at-group _ _ 2 2 (se-there post (k .0) (k .1)) refl refl,
+            λ h. let k = both-false r b (w .se h) in at-group _ _ 2 2 (se-there post (k .0) (k .1)) refl refl,
             (
-              λ h. let k = both b l (w .sw h) in at-group _ _ 2 0 (sw-there post (k .0) (k .1)) refl refl,
-              (λ h. let k = both l t (w .nw h) in at-group _ _ 0 0 (nw-there post (k .0) (k .1)) refl refl, tt),
+              λ h. let k = both-false b l (w .sw h) in at-group _ _ 2 0 (sw-there post (k .0) (k .1)) refl refl,
+              (λ h. let k = both-false l t (w .nw h) in at-group _ _ 0 0 (nw-there post (k .0) (k .1)) refl refl, tt),
             ),
           ),
         )

@@ -1,3 +1,2 @@
--- Next by a scan of the places round a post, and by keys.
+-- Next by a scan of the places round a post.
 pub mod Scan
-pub mod Keys

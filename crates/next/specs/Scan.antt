@@ -1,24 +1,10 @@
 -- The first of a post and its neighbours in an order, found by a scan of the places round it: the height order, it reversed, or the order by slopes.
 use Prim.Native.Nat.{ℕ, _+_, _-_}
-use mathlib.Core.Bool.{Bool, false, cond, not, _&&_}
+use mathlib.Core.Bool.{Bool, cond, not, _&&_}
 use mathlib.Core.List.{List, [], _∷_}
 use Rattle.surface.specs.Edges.{lowerOf, Place, place}
 use Rattle.post.specs.declared.border.Borders.{Borders}
 use Rattle.post.specs.declared.corner.Corners.{Corners}
-
--- a post on no border
-abbrev pub inside : Borders
-inside = record { top = false; bottom = false; left = false; right = false }
-
--- the corners whose cell is there
-abbrev pub cells : Borders → Corners
-cells at =
-    record {
-      ne = not (at .top) && not (at .right);
-      se = not (at .right) && not (at .bottom);
-      sw = not (at .bottom) && not (at .left);
-      nw = not (at .left) && not (at .top);
-    }
 
 module _ (lower : ℕ → ℕ → Bool) where
   -- the lower of what was found so far and the neighbour at a place

@@ -4,10 +4,12 @@
 // lower post beside it, which is joined, and nearer: so it is steeper, or on level ground as steep and lower. Upward a corner that is above the post is
 // joined to it exactly where both sides of their cell are above the post too, since the diagonal goes through the lowest of the four. Where they go through
 // the highest posts, up and down change places.
-use crate::key;
+use keys::post_of;
 use order::is_odd_row;
 use post::border::borders_of;
 use post::border::is_border;
+use steepest::steepest_inside;
+use steepest::steepest_up;
 use surface::Grid;
 use surface::Spacings;
 use surface::VIRTUAL_PIT;
@@ -33,8 +35,8 @@ pub fn next_inside(
     requires { ⌜ PostOf (plotOf grid (now heights)) p × (isBorder (grid .rows) (grid .columns) p ≡ false) × (odd ≡ isOdd (row (grid .columns) p)) × Spaced spacings × (highest ≡ grid .highest) × (even ≡ true → spacings .east ≡ spacings .south) ⌝ }
     ensures { λ r. ⌜ r ≡ next (toward (plotOf grid (now (heights .entry))) spacings up) p ⌝ }
 {
-    let best = key::steepest_inside(heights, grid, spacings, p, odd, even, highest, up);
-    key::post_of(grid, p, best)
+    let best = steepest_inside(heights, grid, spacings, p, odd, even, highest, up);
+    post_of(grid, p, best)
 }
 
 // Next up from any post; used for those on a border.
@@ -43,8 +45,8 @@ pub fn next_up_anywhere(heights: &[i32], grid: Grid, spacings: Spacings, p: usiz
     ensures { λ r. ⌜ r ≡ next (up (plotOf grid (now (heights .entry))) spacings) p ⌝ }
 {
     let at = borders_of(grid, p);
-    let best = key::steepest_up(heights, grid, spacings, p, at, is_odd_row(grid, p));
-    key::post_of(grid, p, best)
+    let best = steepest_up(heights, grid, spacings, p, at, is_odd_row(grid, p));
+    post_of(grid, p, best)
 }
 
 // Next down, or where `up` next up, from any post. From a post on a border next down is the virtual pit.

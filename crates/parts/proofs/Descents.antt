@@ -3,6 +3,7 @@ use Prim.Native.Nat.{ℕ, zero, suc, _≤_, _<_}
 use native.Mathlib.Omega.{arith}
 use mathlib.Core.Path.{_≡_, refl, sym, _∙_, ap}
 use mathlib.Core.Logic.{inl, inr}
+use mathlib.Core.Bool.{true}
 use mathlib.Core.List.{List}
 use lib.Dec.{ltb}
 use lib.ListN.{length}
@@ -17,9 +18,9 @@ use Rattle.surface.proofs.General.Stores.{stores-all}
 use Rattle.surface.proofs.AnyOrder.Grid.{plot-fits}
 use Rattle.surface.proofs.AnyOrder.Walks.{Falling, next-vertex, next-stop, pit-stop, end-vertex, end-is-stop}
 use Rattle.surface.proofs.OfPlots.Instance.{down-falling, up-falling}
-use Rattle.parts.specs.Filled.{ForParts, AllFilled}
-use Rattle.parts.specs.Paths.{follow, along, pathEnd, Ends}
-use Rattle.parts.proofs.Shorter.{outside, along-stays}
+use Rattle.nexts.specs.Filled.{ForNexts, AllFilled}
+use Rattle.paths.specs.Paths.{follow, along, pathEnd, PathsEnd}
+use Rattle.paths.proofs.Shorter.{outside, along-stays}
 
 module _ {n : ℕ} {d : Descent} (law : Falling n d) (fits : n ≤ virtualPit) where
   -- the list of next posts
@@ -38,7 +39,7 @@ module _ {n : ℕ} {d : Descent} (law : Falling n d) (fits : n ≤ virtualPit) w
   end-is : (p : ℕ) → p < n → pathEnd nexts p ≡ end d n p
   end-is p h = rw (length-listOf (next d) n) (along-end n p (inl h))
 
-  nexts-end : Ends nexts
+  nexts-end : PathsEnd nexts
   nexts-end = record { stays = λ p. either (ltb p n) (λ e. post p (ltb-true p n e)) (λ e. beyond p (ltb-false p n e)) }
     where
       post : (p : ℕ) → p < n → follow nexts (pathEnd nexts p) ≡ pathEnd nexts p
@@ -52,17 +53,17 @@ module _ {n : ℕ} {d : Descent} (law : Falling n d) (fits : n ≤ virtualPit) w
   ends-are : listOf (pathEnd nexts) (length nexts) ≡ listOf (end d n) n
   ends-are = rw (length-listOf (next d) n) (listOf-ext (along nexts n) (end d n) n (λ p h. along-end n p (inl h)))
 
-module _ {pl : Plot} {s : Spacings} {dales₀ hills₀ dales hills : List ℕ} (lent : ForParts pl s dales₀ hills₀) (f : AllFilled pl s dales₀ hills₀ dales hills) where
+module _ {pl : Plot} {s : Spacings} {dales₀ hills₀ dales hills : List ℕ} (lent : ForNexts pl s true dales₀ hills₀) (f : AllFilled pl s true dales₀ hills₀ dales hills) where
   dales-nexts : dales ≡ listOf (next (down pl s)) (posts pl)
-  dales-nexts = f .downward ∙ stores-all _ (posts pl) dales₀ 0 (lent .dalesSize)
+  dales-nexts = f .downward ∙ stores-all _ (posts pl) dales₀ 0 (lent .downsSize)
 
   hills-nexts : hills ≡ listOf (next (up pl s)) (posts pl)
-  hills-nexts = f .upward ∙ stores-all _ (posts pl) hills₀ 0 (lent .hillsSize)
+  hills-nexts = f .upward ∙ stores-all _ (posts pl) hills₀ 0 (lent .upsSize refl)
 
-  pub dales-end : Ends dales
+  pub dales-end : PathsEnd dales
   dales-end = rw dales-nexts (nexts-end (down-falling pl (lent .valid .sides) s) (plot-fits (lent .valid .sides)))
 
-  pub hills-end : Ends hills
+  pub hills-end : PathsEnd hills
   hills-end = rw hills-nexts (nexts-end (up-falling pl (lent .valid .sides) s) (plot-fits (lent .valid .sides)))
 
   -- the ends of their paths are the names of the dales, and of the hills

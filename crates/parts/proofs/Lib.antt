@@ -1,6 +1,2 @@
--- Laws of lists of next posts: how they are filled, the paths that they make and where these end; and of the call's outcome.
-pub mod Filled
-pub mod Shorter
-mod Turns
+-- Where the paths that lists of next posts make end.
 pub mod Descents
-pub mod Outcome

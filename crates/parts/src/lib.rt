@@ -1,17 +1,13 @@
 // docs/SPECIFICATION.md, "Lines, dales and hills": the dales and hills of a plot. Both lists are filled with next posts, and the paths that these make
 // are then shortened to their ends.
-mod fill;
-mod paths;
-
-use fill::fill_nexts;
 use limits::heights_verdict;
 use limits::spaced_verdict;
+use nexts::fill_nexts;
 use paths::shorten;
+use settings::grid_of;
 use settings::read_sheet;
 use surface::Answer;
 use surface::DOWN;
-use surface::Grid;
-use surface::HIGHEST_RULE;
 use surface::Sheet;
 use surface::Spacings;
 use surface::UP;
@@ -64,12 +60,8 @@ pub fn dales_and_hills(
     if answer.code != 0 {
         return answer;
     }
-    let grid = Grid {
-        rows: rows as usize,
-        columns: columns as usize,
-        highest: said.rule == HIGHEST_RULE,
-    };
-    fill_nexts(heights, grid, spacings, dales, hills);
+    let grid = grid_of(said, rows, columns);
+    fill_nexts(heights, grid, spacings, true, dales, hills);
     shorten(dales, grid, DOWN);
     shorten(hills, grid, UP);
     answer

@@ -1,55 +1,51 @@
--- Refused by the rows that lead, or the step from a post.
+-- Refused by the rows that lead, or the step of a walk from the post.
 use native.Mathlib.Omega.{arith}
-use mathlib.Core.Path.{_≡_, sym, _∙_, ap}
+use mathlib.Core.Path.{ap}
 use mathlib.Core.Logic.{inl}
 use borrow.Author.Tests.{ne-eqb}
-use Rattle.surface.specs.Plot.{Plot, PostOf}
-use Rattle.surface.specs.Spacings.{Spaced}
+use Rattle.surface.specs.Plot.{plotOf}
 use Rattle.surface.specs.Refusals.{nextVerdict}
-use Rattle.surface.specs.Calls.{plotSaid}
 use Rattle.surface.proofs.AnyOrder.Grid.{vertex-low}
 use Rattle.surface.proofs.AnyOrder.Walks.{next-vertex}
 use Rattle.surface.proofs.OfPlots.Instance.{toward-falling}
-use Rattle.surface.proofs.OfCalls.Verdicts.{code}
-use Rattle.surface.proofs.OfCalls.Accepted.{plain, plot-ruled, next-valid}
-use Rattle.lines.proofs.Called.{post-sheet, all-passed}
+use Rattle.surface.proofs.OfCalls.Accepted.{Served, serve}
+use Rattle.surface.proofs.OfCalls.LineCalls.{ForNext, next-valid, next-accepted}
+use Rattle.lines.specs.declared.walk.Walk.{Walk}
 use borrow.Author.Needs.{needs}
 use Rattle.lines.proofs.next_post.Statement.{statement}
 use Rattle.lines.proofs.next_post.Tie as tie
 
-abbrev asked : tie.Else1 → Plot
-asked c = let a = c .before .before .before .args in plotSaid (a .said) (a .rows) (a .columns) (a .heights .now)
+abbrev start : tie.After-grid-of → tie.Start
+start c = c .before .before .before .before
 
-passed : (c : tie.Else1) → nextVerdict (asked c) (c .before .before .before .args .spacings) (c .before .before .before .args .post) .code ≡ 0
-passed c = sym (code (c .before .before .post-verdict .ensures)) ∙ c .if1 .left
-
--- the plot of an accepted call
-same : (c : tie.Else1) → asked c ≡ plain (asked c)
-same c = plot-ruled (asked c) (post-sheet (asked c) _ _ (passed c))
-
-served : (c : tie.Else1) → let a = c .before .before .before .args in nextVerdict (plain (asked c)) (a .spacings) (a .post) .code ≡ 0
+-- the plot that the call goes on with, and what acceptance says of it
+served : (c : tie.After-grid-of) → let a = start c .args in
+    Served (a .said) (a .rows) (a .columns) (a .heights .now) (λ pl. nextVerdict pl (a .spacings) (a .post)) (c .grid-of .result)
 served c =
-    let a = c .before .before .before .args in sym (ap (λ (pl : Plot). nextVerdict pl (a .spacings) (a .post) .code) (same c)) ∙ passed c
+    serve _ _ _ _ _ (λ e. next-valid _ _ _ e .sheet) (c .before .before .before .post-verdict .ensures) (c .before .if1 .left) (c .grid-of .ensures)
 
-post : (c : tie.Else1) → let a = c .before .before .before .args in PostOf (plain (asked c)) (a .post) × Spaced (a .spacings)
-post c = next-valid (plain (asked c)) _ _ (served c)
+accepted : (c : tie.After-grid-of) → let a = start c .args in ForNext (plotOf (c .grid-of .result) (a .heights .now)) (a .spacings) (a .post)
+accepted c = next-valid _ _ _ (served c .passed)
 
 returns : tie.Need-returns
 returns c = rw (← (c .before .before .post-verdict .ensures), ne-eqb _ 0 (c .if1 .taken))
 
-next-at-requires : tie.Need-next-at-requires
-next-at-requires c κs = post (c .before)
+-- a walk from the post
+next-requires : tie.Need-next-requires
+next-requires c κs = let k = accepted c in record { valid = k .postOf .valid; spaced = k .spaced; vertex = inl (k .postOf .post) }
 
-cast-t13 : tie.Need-cast-t13
-cast-t13 c =
-    let e = c .before .before in
-    let valid = post e .0 in
-    let a = e .before .before .before .args in
-    let law = toward-falling (plain (asked e)) (valid .valid .sides) (a .spacings) (a .up) in
-    omega (arith, c .next-at .ensures, vertex-low (valid .valid .sides) (next-vertex law (a .post) (inl (valid .post))))
+cast-t14 : tie.Need-cast-t14
+cast-t14 c =
+    let g = c .before .before in
+    let k = accepted g .postOf in
+    let a = start g .args in
+    let law = toward-falling (plotOf (g .grid-of .result) (a .heights .now)) (k .valid .sides) (a .spacings) (a .up) in
+    omega (arith, ap (λ (w : Walk). w .post) (c .before .next .ensures), vertex-low (k .valid .sides) (next-vertex law (a .post) (inl (k .post))))
 
 returns-2 : tie.Need-returns-2
-returns-2 c = let e = c .before .before in rw (same e) (rw (all-passed (plain (asked e)) _ _ (served e), c .next-at .ensures))
+returns-2 c =
+    let s = served (c .before .before) in
+    rw (s .same) (rw (next-accepted _ _ _ (s .passed), c .before .next .ensures))
 
 pub next-post-spec : {M : Type 1} → statement M
-next-post-spec = tie.close (tie.spec (search needs) returns next-at-requires cast-t13 returns-2)
+next-post-spec = tie.close (tie.spec (search needs) returns (search needs) next-requires cast-t14 returns-2)

@@ -6,7 +6,7 @@ use Rattle.surface.specs.Refusals.{verdict, leadingSpaced}
 use Rattle.surface.specs.Calls.{plotSaid}
 use Rattle.surface.proofs.OfCalls.Accepted.{spaced-sized}
 use Rattle.surface.proofs.OfCalls.Verdicts.{code}
-use Rattle.parts.proofs.Outcome.{size-refused, lists-refused, lists-passed}
+use Rattle.surface.proofs.OfCalls.PartsCall.{size-refused, lists-refused, lists-passed}
 use borrow.Author.Needs.{needs}
 use Rattle.parts.proofs.verdict.Statement.{statement}
 use Rattle.parts.proofs.verdict.Tie as tie

@@ -1,21 +1,20 @@
 -- By the row that refuses the line, or by its entries.
 use native.Mathlib.Omega.{arith}
 use mathlib.Core.Path.{_≡_, sym, _∙_}
-use Prim.Native.Nat.{_≤_, _<_}
+use Prim.Native.Nat.{_<_}
 use mathlib.Core.Bool.{true}
-use borrow.Author.Tests.{ltb-true, ltb-false, not-true, not-false}
+use borrow.Author.Tests.{ltb-true, ltb-false, le-leb, lt-leb, not-true, not-false}
 use lib.ListN.{length}
-use Rattle.surface.specs.Plot.{Plot, plotOf, posts, PostOf}
-use Rattle.surface.specs.Marks.{markAt}
+use Rattle.surface.specs.Plot.{Plot, plotOf, posts}
+use Rattle.surface.specs.Marks.{isSaddle, markAt}
 use Rattle.surface.specs.Lines.{Descent, runsOf, lineStart, toward}
-use Rattle.surface.specs.Spacings.{Spaced}
 use Rattle.surface.proofs.AnyOrder.Walks.{Falling}
 use Rattle.surface.proofs.OfPlots.Instance.{toward-falling}
-use Rattle.surface.proofs.OfCalls.Accepted.{next-valid}
+use Rattle.surface.proofs.OfCalls.LineCalls.{ForNext, next-valid, no-saddle, no-run, too-long, drawn}
 use Rattle.lines.specs.declared.walk.Walk.{Walk}
 use Rattle.lines.specs.Walks.{WalkOf, path}
-use Rattle.lines.proofs.Walking.{path-low}
-use Rattle.lines.proofs.Called.{no-saddle, no-run, too-long, drawn, start-vertex, start-short}
+use Rattle.lines.proofs.Walking.{path-low, start-short}
+use Rattle.runs.proofs.Ringed.{start-vertex}
 use borrow.Author.Needs.{needs}
 use Rattle.lines.proofs.line.draw_from.Statement.{statement}
 use Rattle.lines.proofs.line.draw_from.Tie as tie
@@ -23,15 +22,15 @@ use Rattle.lines.proofs.line.draw_from.Tie as tie
 abbrev plotted : tie.Start → Plot
 plotted s = plotOf (s .args .grid) (s .args .heights .now)
 
-post : (s : tie.Start) → PostOf (plotted s) (s .args .p) × Spaced (s .args .spacings)
+post : (s : tie.Start) → ForNext (plotted s) (s .args .spacings) (s .args .p)
 post s = next-valid (plotted s) _ _ (s .pre)
 
 -- it is a saddle
 abbrev start : tie.Else1 → tie.Start
 start c = c .before .before .before
 
-saddle : (c : tie.Else1) → 3 ≤ markAt (plotted (start c)) (start c .args .p)
-saddle c = omega (arith, c .before .mark-at .ensures, c .if1 .left)
+saddle : (c : tie.Else1) → isSaddle (markAt (plotted (start c)) (start c .args .p)) ≡ true
+saddle c = le-leb 3 (markAt (plotted (start c)) (start c .args .p)) (omega (arith, c .before .mark-at .ensures, c .if1 .left))
 
 -- it has the run
 abbrev begun : tie.Else2 → tie.Start
@@ -54,12 +53,12 @@ abbrev walking : tie.Else2 → Walk
 walking c = record { post = c .before .before .line-start .result .post; up = begun c .args .up }
 
 law : (c : tie.Else2) → Falling (posts (plotted (begun c))) (descent c)
-law c = let s = begun c in toward-falling (plotted s) (post s .0 .valid .sides) (s .args .spacings) (s .args .up)
+law c = let s = begun c in toward-falling (plotted s) (post s .postOf .valid .sides) (s .args .spacings) (s .args .up)
 
 stands : (c : tie.Else2) → WalkOf (plotted (begun c)) (begun c .args .spacings) (walking c)
 stands c =
     let p = post (begun c) in
-    record { valid = p .0 .valid; spaced = p .1; vertex = start-vertex (law c) (p .0 .post) (has c) (goes c) }
+    record { valid = p .postOf .valid; spaced = p .spaced; vertex = start-vertex (law c) (p .postOf .post) (has c) (goes c) }
 
 -- the list has room
 room : (c : tie.Else3)
@@ -68,21 +67,21 @@ room : (c : tie.Else3)
 room c = ltb-true _ _ (sym (c .before .has-room .ensures) ∙ not-false _ (c .if3 .left))
 
 mark-at-requires : tie.Need-mark-at-requires
-mark-at-requires c κs = post (c .before) .0
+mark-at-requires c κs = post (c .before) .postOf
 
 returns : tie.Need-returns
 returns c =
     let m = c .before .before in
     rw (c .refused .ensures)
-    (no-saddle _ _ _ _ _ _ (m .before .before .pre) (omega (arith, m .mark-at .ensures, c .before .if1 .taken)))
+    (no-saddle _ _ _ _ _ _ (m .before .before .pre) (lt-leb 3 (markAt (plotted (m .before .before)) (m .before .before .args .p)) (omega (arith, m .mark-at .ensures, c .before .if1 .taken))))
 
 ring-at-requires : tie.Need-ring-at-requires
-ring-at-requires c κs = post (start c) .0
+ring-at-requires c κs = post (start c) .postOf
 
 line-start-requires : tie.Need-line-start-requires
 line-start-requires c κs =
     let p = post (start (c .before)) in
-    (record { post = p .0; saddle = saddle (c .before); holds = c .ring-at .ensures }, p .1)
+    (record { post = p .postOf; saddle = saddle (c .before); holds = c .ring-at .ensures }, p .spaced)
 
 returns-2 : tie.Need-returns-2
 returns-2 c =
@@ -93,7 +92,7 @@ returns-2 c =
     (ltb-false _ _ (sym (l .line-start .ensures .found) ∙ not-true _ (c .before .if2 .taken))))
 
 has-room-requires : tie.Need-has-room-requires
-has-room-requires c κs = (stands c, start-short (law c) (post (begun c) .0 .post) (has c) (goes c))
+has-room-requires c κs = (stands c, start-short (law c) (post (begun c) .postOf .post) (has c) (goes c))
 
 returns-3 : tie.Need-returns-3
 returns-3 c =
@@ -105,7 +104,7 @@ returns-3 c =
 write-entries-requires : tie.Need-write-entries-requires
 write-entries-requires c κs =
     let at-else2 = c .before .before .before in
-    record { walk = stands at-else2; post = post (begun at-else2) .0 .post; room = room (c .before) }
+    record { walk = stands at-else2; post = post (begun at-else2) .postOf .post; room = room (c .before) }
 
 cast-t19 : tie.Need-cast-t19
 cast-t19 c = omega (arith, c .before .before .write-entries .ensures .0, path-low (stands (c .before .before .before .before .before .before)))

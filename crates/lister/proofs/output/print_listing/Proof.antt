@@ -1,4 +1,4 @@
--- What is written is within the buffer, and dales and hills are known where the file was accepted.
+-- What is written is within the buffer, and marks, dales and hills are known where the file was accepted.
 use native.Mathlib.Omega.{arith}
 use mathlib.Core.Path.{sym}
 use mathlib.Core.Bool.{not}
@@ -14,7 +14,7 @@ slice-aggregate-write-all c = sym (length-take-le _ _ (c .before .before .before
 
 print-posts-requires : tie.Need-print-posts-requires
 print-posts-requires c κs =
-    let left = c .before .before .before .before in
+    let left = c .before .before .before .before .before in
     let wrote = left .before .before in
     let first = wrote .before .before .before .before .before .before .before .before .before .before .before .before .before in
     let start = first .before .before .before .before .before .before .before .before .before .before .before .before in (

@@ -9,16 +9,16 @@ use Rattle.lister.proofs.output.print_posts.Statement.{statement}
 use Rattle.lister.proofs.output.print_posts.Tie as tie
 
 abbrev Inv-loop : tie.InvT-loop
-Inv-loop heights grid spacings dales hills buffer₀ posts post₀ buffer post = (posts ≡ grid .rows * grid .columns) × (post ≤ grid .rows * grid .columns) × (length buffer ≡ length buffer₀)
+Inv-loop heights grid spacings marks dales hills buffer₀ posts post₀ buffer post = (posts ≡ grid .rows * grid .columns) × (post ≤ grid .rows * grid .columns) × (length buffer ≡ length buffer₀)
 
 abbrev μ-loop : tie.MeasureT-loop
-μ-loop heights grid spacings dales hills buffer₀ posts post₀ buffer post = posts - post
+μ-loop heights grid spacings marks dales hills buffer₀ posts post₀ buffer post = posts - post
 
 mul-posts : tie.Need-mul-posts Inv-loop μ-loop
-mul-posts c = omega (arith, c .before .before .before .before .pre .0 .valid .sides)
+mul-posts c = omega (arith, c .before .before .before .before .before .pre .0 .valid .sides)
 
 put-posts-requires : tie.Need-put-posts-requires Inv-loop μ-loop
-put-posts-requires c κs = (c .before .before .before .before .before .before .before .pre .0, c .before .before .loop .inv .1, omega (arith, c .before .before .before .before .before .before .before .pre .1, c .before .before .loop .inv .2))
+put-posts-requires c κs = (c .before .before .before .before .before .before .before .before .pre .0, c .before .before .loop .inv .1, omega (arith, c .before .before .before .before .before .before .before .before .pre .1, c .before .before .loop .inv .2))
 
 slice-aggregate-write-all : tie.Need-slice-aggregate-write-all Inv-loop μ-loop
 slice-aggregate-write-all c = sym (length-take-le _ _ (c .before .before .before .put-posts .ensures .room))

@@ -9,7 +9,7 @@ returns c =
     let then = c .before .before .before .before in
     let read = then .before .read-sheet in
     let a = then .before .before .before .before .before .before .before .before .args in
-    begins-refused (a .heights .now) (a .dales .now) (a .hills .now) _ (sheet-refuses (a .sheet .now) (a .file .now) (read .result) (read .ensures) (then .if1 .taken)) (c .before .before .put-refusal .ensures)
+    begins-refused (a .heights .now) (a .marks .now) (a .dales .now) (a .hills .now) _ (sheet-refuses (a .sheet .now) (a .file .now) (read .result) (read .ensures) (then .if1 .taken)) (c .before .before .put-refusal .ensures)
 
 put-file-requires : tie.Need-put-file-requires
 put-file-requires c κs =

@@ -1,6 +1,6 @@
 -- The text of a refusal, and no rows.
 use mathlib.Core.Path.{refl}
-use Rattle.listing.proofs.Writing.{front}
+use Rattle.text.proofs.Writing.{front}
 use borrow.Author.Needs.{needs}
 use Rattle.listing.proofs.first.put_refusal.Statement.{statement}
 use Rattle.listing.proofs.first.put_refusal.Tie as tie

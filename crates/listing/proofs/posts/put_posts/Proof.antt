@@ -7,25 +7,25 @@ use lib.Dec.{ltb, leb}
 use lib.ListN.{length}
 use Rattle.surface.specs.Plot.{plotOf, posts}
 use Rattle.surface.proofs.General.Bools.{and-left, and-right}
-use Rattle.listing.specs.Wrote.{postRoom}
+use Rattle.listing.specs.Lines.{postRoom}
 use Rattle.listing.proofs.Chunks.{Going, going-none, going-more, going-end}
 use Rattle.listing.proofs.posts.put_posts.Statement.{statement}
 use Rattle.listing.proofs.posts.put_posts.Tie as tie
 
 abbrev Inv-loop : tie.InvT-loop
-Inv-loop heights grid spacings dales hills from out₀ all last post₀ bytes₀ out post bytes =
+Inv-loop heights grid spacings marks dales hills from out₀ all last post₀ bytes₀ out post bytes =
     let pl = plotOf grid heights in
     (all ≡ posts pl) × (last + postRoom ≡ length out₀) × (post ≤ posts pl) × Going pl spacings from out₀ out last post bytes
 
 abbrev μ-loop : tie.MeasureT-loop
-μ-loop heights grid spacings dales hills from out₀ all last post₀ bytes₀ out post bytes = all - post
+μ-loop heights grid spacings marks dales hills from out₀ all last post₀ bytes₀ out post bytes = all - post
 
 -- how many posts there are, and the last place at which a post's lines have room
 abbrev end-post : tie.At-loop Inv-loop μ-loop → ℕ
-end-post l = let g = l .before .before .before .before .before .args .grid in g .rows * g .columns
+end-post l = let g = l .before .before .before .before .before .before .args .grid in g .rows * g .columns
 
 abbrev end-byte : tie.At-loop Inv-loop μ-loop → ℕ
-end-byte l = length (l .before .before .before .before .before .args .out .now) - postRoom
+end-byte l = length (l .before .before .before .before .before .before .args .out .now) - postRoom
 
 -- a turn has a post left and room for its lines
 left : (c : tie.In-loop Inv-loop μ-loop) → c .before .loop .post < end-post (c .before)
@@ -40,30 +40,30 @@ room c =
 
 mul-posts : tie.Need-mul-posts Inv-loop μ-loop
 mul-posts c =
-    let at-start = c .before .before .before .before in
+    let at-start = c .before .before .before .before .before in
     omega (arith, at-start .pre .0 .valid .sides)
 
 sub-last : tie.Need-sub-last Inv-loop μ-loop
 sub-last c =
-    let at-start = c .before .before .before .before in
+    let at-start = c .before .before .before .before .before in
     omega (arith, at-start .pre .2)
 
 loop-holds : tie.Need-loop-holds Inv-loop μ-loop
 loop-holds c =
-    let at-start = c .before .before .before .before in
+    let at-start = c .before .before .before .before .before in
     let s = at-start in
     let a = s .args in
     (refl, omega (arith, s .pre .2), s .pre .1, going-none (plotOf (a .grid) (a .heights .now)) (a .spacings) (a .from) (a .out .now) _)
 
 put-post-requires : tie.Need-put-post-requires Inv-loop μ-loop
 put-post-requires c κs =
-    let at-start = c .before .before .before .before .before .before .before in
+    let at-start = c .before .before .before .before .before .before .before .before in
     let v = c .before .before .loop .inv in (at-start .pre .0, left (c .before), omega (arith, room (c .before), v .1, v .3 .size))
 
 add-post : tie.Need-add-post Inv-loop μ-loop
 add-post c =
     let at-in-loop = c .before .before .before .before in
-    let at-start = at-in-loop .before .before .before .before .before .before in
+    let at-start = at-in-loop .before .before .before .before .before .before .before in
     omega (arith, left at-in-loop, at-start .pre .0 .valid .sides)
 
 loop-less : tie.Need-loop-less Inv-loop μ-loop
@@ -76,7 +76,7 @@ loop-again : tie.Need-loop-again Inv-loop μ-loop
 loop-again c =
     let at-in-loop = c .before .before .before .before in
     let at-loop = at-in-loop .before in
-    let at-start = at-loop .before .before .before .before .before in
+    let at-start = at-loop .before .before .before .before .before .before in
     let l = at-loop .loop in
     let a = at-start .args in
     let w = c .before .before .put-post in (
@@ -91,7 +91,7 @@ same-length c = c .before .loop .inv .3 .size
 
 returns : tie.Need-returns Inv-loop μ-loop
 returns c =
-    let at-start = c .before .before .before .before .before .before in
+    let at-start = c .before .before .before .before .before .before .before in
     let a = at-start .args in
     let v = c .before .loop .inv in
     going-end (plotOf (a .grid) (a .heights .now)) (a .spacings) (a .from) (v .3) (v .1) (v .2) (c .loop-test .left)

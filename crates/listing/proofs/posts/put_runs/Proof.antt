@@ -6,10 +6,10 @@ use borrow.Author.Tests.{not-true, not-false}
 use lib.ListN.{length}
 use Rattle.surface.specs.Plot.{plotOf}
 use Rattle.surface.specs.Lines.{runsOf, toward}
-use Rattle.listing.specs.Wrote.{lineRoom, Wrote}
+use Rattle.text.specs.Wrote.{lineRoom, Wrote}
 use Rattle.listing.specs.Lines.{runLines}
 use Rattle.listing.proofs.Saddles.{few-runs, none, numbered, vertex, line-more, no-lines}
-use Rattle.listing.proofs.Writing.{within}
+use Rattle.text.proofs.Writing.{within}
 use Rattle.listing.proofs.posts.put_runs.Statement.{statement}
 use Rattle.listing.proofs.posts.put_runs.Tie as tie
 

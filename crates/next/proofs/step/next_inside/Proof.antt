@@ -1,14 +1,15 @@
 -- The steepest key tells the post, by spacings that make the same descent.
 use native.Mathlib.Omega.{arith}
-use mathlib.Core.Path.{_≡_, refl, sym, ap, subst, _∙_}
+use mathlib.Core.Path.{_≡_, refl, sym, _∙_}
 use mathlib.Core.Bool.{Bool, true, false}
 use Rattle.surface.specs.Plot.{Plot, plotOf}
 use Rattle.surface.specs.Spacings.{Spaced}
 use Rattle.surface.specs.Lines.{next, toward}
 use Rattle.surface.specs.declared.Spacings.{Spacings}
 use Rattle.surface.proofs.OfPlots.Steepest.{unit-spaced, toward-even}
-use Rattle.next.specs.Keys.{reduced}
-use Rattle.next.proofs.Keyed.{Tells, bits-of, inside-told}
+use Rattle.steepest.specs.Slopes.{reduced}
+use Rattle.keys.proofs.KeyNumbers.{bits-of}
+use Rattle.next.proofs.Keyed.{Tells, inside-told}
 use Rattle.next.proofs.step.next_inside.Statement.{statement}
 use Rattle.next.proofs.step.next_inside.Tie as tie
 

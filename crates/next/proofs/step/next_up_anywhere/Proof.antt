@@ -4,7 +4,8 @@ use mathlib.Core.Path.{_∙_}
 use mathlib.Core.Bool.{true, true≢false}
 use Rattle.surface.specs.Plot.{plotOf}
 use Rattle.surface.specs.Lines.{next, up}
-use Rattle.next.proofs.Keyed.{Tells, bits-of, next-told}
+use Rattle.keys.proofs.KeyNumbers.{bits-of}
+use Rattle.next.proofs.Keyed.{Tells, next-told}
 use borrow.Author.Needs.{needs}
 use Rattle.next.proofs.step.next_up_anywhere.Statement.{statement}
 use Rattle.next.proofs.step.next_up_anywhere.Tie as tie

@@ -1,0 +1,3 @@
+-- The nine posts round a post; keys as numbers.
+pub mod Nine
+pub mod KeyNumbers

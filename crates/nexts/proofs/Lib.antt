@@ -1,0 +1,2 @@
+-- Laws of lists that are filled with next posts.
+pub mod Filled

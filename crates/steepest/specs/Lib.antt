@@ -1,0 +1,2 @@
+-- What the steepest key of a block is.
+pub mod Slopes

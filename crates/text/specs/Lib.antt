@@ -1,0 +1,2 @@
+-- What the functions that write text into a lent list ask, and what they leave there.
+pub mod Wrote
