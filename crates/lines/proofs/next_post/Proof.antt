@@ -40,7 +40,7 @@ returns c = rw (← (c .before .before .post-verdict .ensures), ne-eqb _ 0 (c .i
 
 -- a walk from the post
 next-requires : tie.Need-next-requires
-next-requires c κs = let k = post (c .before) in record { valid = k .0 .valid; spaced = k .1; vertex = inl (k .0 .post) }
+next-requires c κs = post (c .before)
 
 cast-t15 : tie.Need-cast-t15
 cast-t15 c =
