@@ -52,7 +52,7 @@ fn write_entries(
     let mut i = 1;
     let end = loop {
         let here = at.post;
-        let ahead = at.next(heights, grid, spacings);
+        let ahead = at.onward(heights, grid, spacings);
         if ahead.post == here {
             break here;
         }

@@ -5,8 +5,8 @@ use surface::Spacings;
 use surface::VIRTUAL_PIT;
 ghost use mathlib.Core.Path.{_≡_};
 ghost use lib.ListN.{length};
-ghost use Rattle.surface.specs.Plot.{plotOf};
-ghost use Rattle.surface.specs.Lines.{next, toward};
+ghost use Rattle.surface.specs.Plot.{plotOf, PostOf};
+ghost use Rattle.surface.specs.Lines.{Spaced, next, toward};
 ghost use Rattle.lines.specs.Walks.{WalkOf, path};
 
 // Where a walk stands, at a post or in the virtual pit, and whether it goes up.
@@ -16,8 +16,21 @@ pub struct Walk {
 }
 
 impl Walk {
-    // The walk a post on; at an end it stays.
+    // The walk a post on, from a post; at an end it stays.
     pub fn next(self, heights: &[i32], grid: Grid, spacings: Spacings) -> Walk
+        requires { ⌜ PostOf (plotOf grid (now heights)) (self .post) × Spaced spacings ⌝ }
+        ensures { λ r. ⌜ r ≡ record { post = next (toward (plotOf grid (now (heights .entry))) spacings (self .up)) (self .post); up = self .up } ⌝ }
+    {
+        let up = self.up;
+        Walk {
+            post: next_at(heights, grid, spacings, self.post, up),
+            up,
+        }
+    }
+
+    // The same from any vertex: in the virtual pit it stays. Not by `next`: a step that one function alone calls is put into it, which is then too large to be
+    // put into the loops, and walks would go through memory.
+    pub fn onward(self, heights: &[i32], grid: Grid, spacings: Spacings) -> Walk
         requires { ⌜ WalkOf (plotOf grid (now heights)) spacings self ⌝ }
         ensures { λ r. ⌜ r ≡ record { post = next (toward (plotOf grid (now (heights .entry))) spacings (self .up)) (self .post); up = self .up } ⌝ }
     {
@@ -42,7 +55,7 @@ pub(crate) fn entries_of(heights: &[i32], grid: Grid, spacings: Spacings, from: 
     let mut entries: usize = 1;
     let count = loop {
         let here = at.post;
-        let ahead = at.next(heights, grid, spacings);
+        let ahead = at.onward(heights, grid, spacings);
         if ahead.post == here {
             break entries;
         }

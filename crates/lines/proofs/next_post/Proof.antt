@@ -32,7 +32,7 @@ returns c = rw (← (c .before .before .post-verdict .ensures), ne-eqb _ 0 (c .i
 
 -- a walk from the post
 next-requires : tie.Need-next-requires
-next-requires c κs = let k = accepted c in record { valid = k .postOf .valid; spaced = k .spaced; vertex = inl (k .postOf .post) }
+next-requires c κs = let k = accepted c in (k .postOf, k .spaced)
 
 cast-t14 : tie.Need-cast-t14
 cast-t14 c =

@@ -28,7 +28,7 @@ moved : (c : tie.Else1 Inv-loop μ-loop)
     → let l = c .before .before .before in
     let a = l .before .before .args in
     next (toward (plotOf (a .grid) (a .heights .now)) (a .spacings) (l .loop .at .up)) (l .loop .at .post) ≡ l .loop .at .post → ⊥
-moved c e = c .if1 .left (ap (λ (w : Walk). w .post) (c .before .before .next .ensures) ∙ e)
+moved c e = c .if1 .left (ap (λ (w : Walk). w .post) (c .before .before .onward .ensures) ∙ e)
 
 -- the list keeps its length, and has an entry for the next post, which fits it
 kept : (l : tie.At-loop Inv-loop μ-loop) → length (l .loop .line) ≡ length (l .before .before .args .line .now)
@@ -53,8 +53,8 @@ slice-write-line c = omega (arith, c .before .pre .room)
 loop-holds : tie.Need-loop-holds Inv-loop μ-loop
 loop-holds c = (along-none (c .before .pre .walk), refl)
 
-next-requires : tie.Need-next-requires Inv-loop μ-loop
-next-requires c κs = c .loop .inv .0 .stands
+onward-requires : tie.Need-onward-requires Inv-loop μ-loop
+onward-requires c κs = c .loop .inv .0 .stands
 
 cast-line-2 : tie.Need-cast-line-2 Inv-loop μ-loop
 cast-line-2 c = omega (arith, fits (c .before .before .before))
@@ -66,12 +66,12 @@ add-i : tie.Need-add-i Inv-loop μ-loop
 add-i c = omega (arith, room (c .before .before .before))
 
 loop-less : tie.Need-loop-less Inv-loop μ-loop
-loop-less c = rw (c .before .before .next .ensures) (sinks (c .before .before .before .loop .inv .0 .stands) (moved c))
+loop-less c = rw (c .before .before .onward .ensures) (sinks (c .before .before .before .loop .inv .0 .stands) (moved c))
 
 loop-again : tie.Need-loop-again Inv-loop μ-loop
 loop-again c =
     let v = c .before .before .before .loop .inv in
-    rw (c .before .before .next .ensures) (along-more (v .0) (moved c), rw add-one (rw (path-more (v .0 .stands) (moved c)) at (v .1)))
+    rw (c .before .before .onward .ensures) (along-more (v .0) (moved c), rw add-one (rw (path-more (v .0 .stands) (moved c)) at (v .1)))
 
 cast-line-3 : tie.Need-cast-line-3 Inv-loop μ-loop
 cast-line-3 c = omega (arith, fits (c .before .before .before))
@@ -90,11 +90,11 @@ same-length c =
 returns : tie.Need-returns Inv-loop μ-loop
 returns c =
     let v = c .before .before .before .loop .inv in
-    let e = sym (ap (λ (w : Walk). w .post) (c .before .before .next .ensures)) ∙ c .if1 .taken in
+    let e = sym (ap (λ (w : Walk). w .post) (c .before .before .onward .ensures)) ∙ c .if1 .taken in
     (omega (arith, along-end (v .0) e), rw (path-end (v .0 .stands) e) at (v .1))
 
 pub write-entries-spec : {M : Type 1} → statement M
 write-entries-spec =
     tie.close
-    (tie.spec Inv-loop μ-loop cast-line slice-write-line loop-holds next-requires cast-line-2 (λ c. omega arith) slice-write-line-2 add-i
+    (tie.spec Inv-loop μ-loop cast-line slice-write-line loop-holds onward-requires cast-line-2 (λ c. omega arith) slice-write-line-2 add-i
     loop-less loop-again cast-line-3 (λ c. omega arith) slice-write-line-3 add-result same-length returns)

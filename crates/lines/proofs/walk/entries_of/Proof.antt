@@ -21,13 +21,13 @@ moved : (c : tie.Else1 Inv-loop μ-loop)
     → let l = c .before .before .before in
     let a = l .before .args in
     next (toward (plotOf (a .grid) (a .heights .now)) (a .spacings) (l .loop .at .up)) (l .loop .at .post) ≡ l .loop .at .post → ⊥
-moved c e = c .if1 .left (ap (λ (w : Walk). w .post) (c .before .before .next .ensures) ∙ e)
+moved c e = c .if1 .left (ap (λ (w : Walk). w .post) (c .before .before .onward .ensures) ∙ e)
 
 loop-holds : tie.Need-loop-holds Inv-loop μ-loop
 loop-holds c = along-none (c .pre)
 
-next-requires : tie.Need-next-requires Inv-loop μ-loop
-next-requires c κs = c .loop .inv .stands
+onward-requires : tie.Need-onward-requires Inv-loop μ-loop
+onward-requires c κs = c .loop .inv .stands
 
 add-entries : tie.Need-add-entries Inv-loop μ-loop
 add-entries c =
@@ -35,13 +35,13 @@ add-entries c =
     omega (arith, along-low (c .before .before .before .loop .inv) (at-start .pre))
 
 loop-less : tie.Need-loop-less Inv-loop μ-loop
-loop-less c = rw (c .before .before .next .ensures) (sinks (c .before .before .before .loop .inv .stands) (moved c))
+loop-less c = rw (c .before .before .onward .ensures) (sinks (c .before .before .before .loop .inv .stands) (moved c))
 
 loop-again : tie.Need-loop-again Inv-loop μ-loop
-loop-again c = rw (c .before .before .next .ensures) (along-more (c .before .before .before .loop .inv) (moved c))
+loop-again c = rw (c .before .before .onward .ensures) (along-more (c .before .before .before .loop .inv) (moved c))
 
 returns : tie.Need-returns Inv-loop μ-loop
-returns c = along-end (c .before .before .before .loop .inv) (sym (ap (λ (w : Walk). w .post) (c .before .before .next .ensures)) ∙ c .if1 .taken)
+returns c = along-end (c .before .before .before .loop .inv) (sym (ap (λ (w : Walk). w .post) (c .before .before .onward .ensures)) ∙ c .if1 .taken)
 
 pub entries-of-spec : {M : Type 1} → statement M
-entries-of-spec = tie.close (tie.spec Inv-loop μ-loop loop-holds next-requires add-entries loop-less loop-again returns)
+entries-of-spec = tie.close (tie.spec Inv-loop μ-loop loop-holds onward-requires add-entries loop-less loop-again returns)
