@@ -1,7 +1,8 @@
 -- The definitions of docs/SPECIFICATION.md, a file for each of its sections. These files are what a reader must believe; the laws are in proofs/.
--- (Lists, Flags, Patterns, Rounding, FirstVersion, Demand, Steepest, Sheets and Grounds are no sections of their own. Flags and Patterns serve the code, and
--- no promise of a call cites them; Patterns has the changes of side of "Marks and counts". Rounding belongs to "Survey file", and FirstVersion states what
--- is proved of version 1; Demand states what is proved of them all, Steepest of next and lines, Sheets of settings sheets, and Grounds of the ring call.)
+-- (Lists, Flags, Patterns, Rounding, Version, FirstVersion, Demand, Steepest, Sheets and Grounds are no sections of their own. Flags and Patterns serve the
+-- code, and no promise of a call cites them; Patterns has the changes of side of "Marks and counts". Rounding belongs to "Survey file" and Version to "Calls",
+-- and FirstVersion states what is proved of version 1 of a file; Demand states what is proved of them all, Steepest of next and lines, Sheets of settings
+-- sheets, and Grounds of the ring call.)
 --
 -- To read them without knowing the language:
 --     f : A → B, and below it f x = ..       a definition with its type; `abbrev`, `unfoldable` and `pub` may be skipped
@@ -37,6 +38,7 @@ pub mod SurveyFile
 pub mod Settings
 pub mod Refusals
 pub mod Calls
+pub mod Version
 pub mod Series
 pub mod Demand
 pub mod Steepest
