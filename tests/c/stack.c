@@ -21,7 +21,7 @@
 #include <unistd.h>
 
 /* No figure is further than SLACK above what was measured, lest it be an old one. */
-enum { SIDE = 120, POSTS = SIDE * SIDE, CALLS = 12, KINDS = 6, PATTERN = 0xa5, SLACK = 256 };
+enum { SIDE = 120, POSTS = SIDE * SIDE, CALLS = 12, KINDS = 6, PATTERN = 0xa5, SLACK = 512 };
 
 /* What the processes share. */
 static struct lists {
