@@ -47,10 +47,10 @@
  *   during the call. A pointer may be null only where its length is 0; one that
  *   is not null is aligned for its type.
  * - Lists lent to one call share no memory. This is for the caller to keep. A call
- *   whose lists overlap may write wrong entries, and may never return, as
- *   sn_dales_and_hills does with dales laid over heights. The lists that a call
- *   writes are declared restrict (SN_RESTRICT), so that gcc warns (-Wrestrict, which
- *   -Wall has on) where it sees one list passed twice.
+ *   whose lists overlap may write wrong entries, and it may hang: sn_dales_and_hills
+ *   with dales laid over heights never returns. The lists that a call writes are
+ *   declared restrict (SN_RESTRICT), so that gcc warns (-Wrestrict, part of -Wall)
+ *   where it sees one list passed as two.
  * - Threads: there is no state, so any number of calls may run at the same time,
  *   as long as no list that one of them writes is lent to another. Lists that are
  *   only read may be lent to several at once. Whoever re-shoots a plot keeps other
@@ -526,8 +526,8 @@ sn_answer sn_dales_and_hills(const uint8_t *sheet, size_t sheet_length,
  * SN_FILE_SPACING_1.
  *
  * File posts: how many heights to lend to sn_read_survey for this file, rows * columns
- * by its bytes 5 and 6. 0 where it has fewer than SN_FILE_HEADER_1 bytes or these are
- * no plot's sides: such a file is refused, whatever it is lent.
+ * by its bytes 5 and 6. 0 where the file has fewer than SN_FILE_HEADER_1 bytes, or where
+ * bytes 5 and 6 are no plot's sides: sn_read_survey refuses such a file.
  */
 SN_READS(1, 2)
 SN_INLINE size_t sn_file_posts(const uint8_t *file, size_t file_length)
