@@ -1,20 +1,25 @@
 # make help lists the targets.
 PREFIX ?= /usr/local
+LIBDIR = $(PREFIX)/lib
+MANDIR = $(PREFIX)/share/man
 DESTDIR ?=
 ROUNDS ?= 25
 
 ARCHIVE = target/staticlib/libsurface_network.a
 LISTER = target/bin/lister
 HEADER = include/surface_network.h
+MANUAL = man/surface-network-lister.1
 VERSION := $(shell sed -n 's/^.define SN_VERSION_[MP][A-Z]* //p' $(HEADER) | paste -sd.)
 
-# Where things are installed.
-INCLUDE = $(DESTDIR)$(PREFIX)/include
-LIB = $(DESTDIR)$(PREFIX)/lib
+# Where things are installed, each as one word for a shell.
+quoted = '$(subst ','\'',$(1))'
+INCLUDE = $(call quoted,$(DESTDIR)$(PREFIX)/include)
+LIB = $(call quoted,$(DESTDIR)$(LIBDIR))
 PKGCONFIG = $(LIB)/pkgconfig
-BIN = $(DESTDIR)$(PREFIX)/bin
+BIN = $(call quoted,$(DESTDIR)$(PREFIX)/bin)
+MAN = $(call quoted,$(DESTDIR)$(MANDIR)/man1)
 
-.PHONY: all archive lister example test bench install uninstall clean help absolute
+.PHONY: all archive lister example test bench install uninstall clean help folders built
 # Two runs of rt would write the same files.
 .NOTPARALLEL:
 
@@ -37,21 +42,42 @@ test: ## runs all proofs and tests; the last line sums them
 bench: archive ## times the library against a C twin; ROUNDS=1 for a short look
 	ROUNDS=$(ROUNDS) bench/run
 
-install: absolute archive lister ## installs under PREFIX, /usr/local if not given; DESTDIR is put before it
-	sed -e 's|@PREFIX@|$(PREFIX)|' -e 's|@VERSION@|$(VERSION)|' surface_network.pc.in >target/surface_network.pc
-	umask 022 && mkdir -p '$(INCLUDE)' '$(PKGCONFIG)' '$(BIN)'
-	install -m 644 $(HEADER) '$(INCLUDE)/surface_network.h'
-	install -m 644 $(ARCHIVE) '$(LIB)/libsurface_network.a'
-	install -m 644 target/surface_network.pc '$(PKGCONFIG)/surface_network.pc'
-	install -m 755 $(LISTER) '$(BIN)/surface-network-lister'
+install: folders built ## copies what is built to PREFIX, /usr/local if not given; DESTDIR is put before it
+	umask 022 && mkdir -p $(INCLUDE) $(PKGCONFIG) $(BIN) $(MAN)
+	install -m 644 $(HEADER) $(INCLUDE)/surface_network.h
+	install -m 644 $(ARCHIVE) $(LIB)/libsurface_network.a
+	install -m 755 $(LISTER) $(BIN)/surface-network-lister
+	install -m 644 $(MANUAL) $(MAN)/surface-network-lister.1
+	sed -e 's|@PREFIX@|$(PREFIX)|' -e 's|@LIBDIR@|$(LIBDIR:$(PREFIX)/%=$${prefix}/%)|' \
+	    -e 's|@VERSION@|$(VERSION)|' surface_network.pc.in >$(PKGCONFIG)/surface_network.pc
+	chmod 644 $(PKGCONFIG)/surface_network.pc
 
-uninstall: absolute ## removes what install put there; folders stay
-	rm -f '$(INCLUDE)/surface_network.h' '$(LIB)/libsurface_network.a' \
-	    '$(PKGCONFIG)/surface_network.pc' '$(BIN)/surface-network-lister'
+uninstall: folders ## removes what install put there; folders stay
+	rm -f $(INCLUDE)/surface_network.h $(LIB)/libsurface_network.a $(PKGCONFIG)/surface_network.pc \
+	    $(BIN)/surface-network-lister $(MAN)/surface-network-lister.1
 
-# The pkg-config file names the prefix, which must mean the same from every folder.
-absolute:
-	@case '$(PREFIX)' in /*) ;; *) echo 'PREFIX must begin with /: $(PREFIX)' >&2; exit 1 ;; esac
+# The pkg-config file names these folders: they must mean the same from every folder, and
+# what pkg-config prints goes through a shell, which would part or change other signs.
+folders:
+	@LC_ALL=C; for name in PREFIX LIBDIR MANDIR; do \
+	    case $$name in \
+	        PREFIX) folder=$(call quoted,$(PREFIX)) ;; \
+	        LIBDIR) folder=$(call quoted,$(LIBDIR)) ;; \
+	        MANDIR) folder=$(call quoted,$(MANDIR)) ;; \
+	    esac; \
+	    case $$folder in \
+	        [!/]* | '') wrong='must begin with /' ;; \
+	        *[!A-Za-z0-9/._+,:=@~-]*) wrong='may have only letters, digits and / . _ + , : = @ ~ - (no space)' ;; \
+	        *) continue ;; \
+	    esac; \
+	    printf '%s %s: %s\n' "$$name" "$$wrong" "$$folder" >&2; exit 1; \
+	done
+
+# It is not built here: whoever may write to PREFIX need not have rt.
+built:
+	@for file in $(ARCHIVE) $(LISTER); do \
+	    test -f $$file || { echo "$$file is not built: run make archive lister first" >&2; exit 1; }; \
+	done
 
 clean: ## removes all that was built
 	rm -rf target

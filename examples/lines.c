@@ -29,21 +29,26 @@ static int refused(const char *call, uint32_t code)
     return 1;
 }
 
-/* A read that fails is no short file. */
+/* A failed read is not a short file. */
 static int read_plot(const char *name)
 {
     FILE *f = fopen(name, "rb");
-    size_t length = f == NULL ? 0 : fread(file, 1, sizeof file, f);
+    size_t length;
+    int failed;
     sn_size size;
 
-    if (f == NULL || ferror(f)) {
+    if (f == NULL) {
         perror(name);
         return 1;
     }
+    length = fread(file, 1, sizeof file, f);
+    failed = ferror(f);
+    if (failed)
+        perror(name);
     fclose(f);
-    posts = length < SN_FILE_HEADER_1 ? 0 : (size_t)file[5] * file[6];
-    if (posts > SN_MAX_POSTS)
-        posts = 0;
+    if (failed)
+        return 1;
+    posts = sn_file_posts(file, length);
     size = sn_read_survey(file, length, heights, posts);
     rows = size.rows;
     columns = size.columns;

@@ -37,28 +37,30 @@ static void print_vertex(uint32_t v)
         printf(" %lu", (unsigned long)v);
 }
 
-/* Reads a file, as far as there is room. A read that fails is no short file. */
+/* Reads a file, as far as there is room. A failed read is not a short file. */
 static int read_file(const char *name, uint8_t *bytes, size_t room, size_t *length)
 {
     FILE *f = fopen(name, "rb");
+    int failed;
 
-    *length = f == NULL ? 0 : fread(bytes, 1, room, f);
-    if (f == NULL || ferror(f)) {
+    if (f == NULL) {
         perror(name);
         return 1;
     }
+    *length = fread(bytes, 1, room, f);
+    failed = ferror(f);
+    if (failed)
+        perror(name);
     fclose(f);
-    return 0;
+    return failed != 0;
 }
 
-/* The plot of the file that was read. Bytes 5 and 6 tell how many heights there are. */
+/* The plot of the file that was read. */
 static int read_plot(void)
 {
     sn_size size;
 
-    posts = file_length < SN_FILE_HEADER_1 ? 0 : (size_t)file[5] * file[6];
-    if (posts > SN_MAX_POSTS)
-        posts = 0;
+    posts = sn_file_posts(file, file_length);
     size = sn_read_survey(file, file_length, heights, posts);
     if (size.code != SN_OK)
         return refused("read", size.code, size.place);
@@ -188,6 +190,11 @@ int main(int argc, char **argv)
     if (argc != 2 && argc != 3) {
         fprintf(stderr, "usage: panel plot.svy [plot.set]\n");
         return 2;
+    }
+    if (!SN_VERSION_MATCHES()) {
+        fprintf(stderr, "panel: compiled for version %lu of the library, linked with %lu\n",
+                (unsigned long)SN_VERSION_NUMBER, (unsigned long)sn_version());
+        return 1;
     }
     if (read_file(argv[1], file, sizeof file, &file_length) || read_plot())
         return 1;

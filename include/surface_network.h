@@ -6,10 +6,11 @@
  * height is a whole number of millimetres, SN_MIN_HEIGHT to SN_MAX_HEIGHT.
  *
  * Height order: a post is below another when its height is less. Equal heights
- * are ordered as driven, to and fro: the post in the lower row is below; in one
- * row, if that is even (0, 2, ..) the one in the lower column, if it is odd the
- * one in the higher column. The virtual pit lies below every post, outside the
- * border; it is written SN_VIRTUAL_PIT in lists.
+ * are ordered as driven, to and fro. Of two posts in different rows, the one whose
+ * row has the smaller number is below. Of two in one row with an even number (0, 2,
+ * ..), the one whose column has the smaller number is below; in a row with an odd
+ * number, the one whose column has the greater. The virtual pit lies below every
+ * post, outside the border; it is written SN_VIRTUAL_PIT in lists.
  *
  * Edges: the sides of each cell of four posts, one diagonal of the cell, and an
  * edge from each border post to the virtual pit. The diagonal goes through the
@@ -45,7 +46,11 @@
  *   The caller owns it. It is read and written only inside its length, and only
  *   during the call. A pointer may be null only where its length is 0; one that
  *   is not null is aligned for its type.
- * - Lists lent to one call share no memory. This is for the caller to keep.
+ * - Lists lent to one call share no memory. This is for the caller to keep. A call
+ *   whose lists overlap may write wrong entries, and it may hang: sn_dales_and_hills
+ *   with dales laid over heights never returns. The lists that a call writes are
+ *   declared restrict (SN_RESTRICT), so that gcc warns (-Wrestrict, part of -Wall)
+ *   where it sees one list passed as two.
  * - Threads: there is no state, so any number of calls may run at the same time,
  *   as long as no list that one of them writes is lent to another. Lists that are
  *   only read may be lent to several at once. Whoever re-shoots a plot keeps other
@@ -54,6 +59,7 @@
  *   answers a code from 1 to 15 and its place; every other value is 0, and no
  *   list is changed. Where several refusals hold, the one listed first under the
  *   call is answered. The place is 0 except with SN_HEIGHT_OUT_OF_RANGE.
+ *   (sn_version takes nothing, is never refused, and answers a number alone.)
  */
 #ifndef SURFACE_NETWORK_H
 #define SURFACE_NETWORK_H
@@ -65,12 +71,15 @@
 extern "C" {
 #endif
 
-/* Version of the library. The build takes it from these three lines. */
+/* Version of this header: three numbers, text, and one number, 40100 for 4.1.0. An
+   installation takes it from the first three lines. That of the archive: sn_version. */
 #define SN_VERSION_MAJOR 4
-#define SN_VERSION_MINOR 0
+#define SN_VERSION_MINOR 1
 #define SN_VERSION_PATCH 0
 #define SN_VERSION \
     SN_TEXT(SN_VERSION_MAJOR) "." SN_TEXT(SN_VERSION_MINOR) "." SN_TEXT(SN_VERSION_PATCH)
+#define SN_VERSION_NUMBER \
+    (SN_VERSION_MAJOR * 10000u + SN_VERSION_MINOR * 100u + SN_VERSION_PATCH)
 
 /* Helpers of this header. */
 #define SN_TEXT(number) SN_TEXT_OF(number)
@@ -104,6 +113,15 @@ extern "C" {
 #define SN_READS(list, length)
 #define SN_WRITES(list, length)
 #define SN_CHANGES(list, length)
+#endif
+
+/* A list that a call writes shares no memory with another of its lists. */
+#if defined(__STDC_VERSION__) && __STDC_VERSION__ >= 199901L && !defined(__cplusplus)
+#define SN_RESTRICT restrict
+#elif defined(__GNUC__) || defined(__clang__)
+#define SN_RESTRICT __restrict__
+#else
+#define SN_RESTRICT
 #endif
 
 /* Sizes of a plot. */
@@ -291,6 +309,15 @@ typedef struct sn_size {
 } sn_size;
 
 /*
+ * Version: that of the archive, as one number. SN_VERSION_MATCHES() is 1 where it is
+ * that of the header that the program was compiled with, and 0 else. Ask where the
+ * program starts: nothing else tells that the two come from different releases.
+ */
+SN_USE_ANSWER
+uint32_t sn_version(void);
+#define SN_VERSION_MATCHES() (sn_version() == SN_VERSION_NUMBER)
+
+/*
  * A settings sheet says of a plot which diagonals cut its cells, and its name:
  *
  *     byte 0       version, SN_SHEET_VERSION
@@ -316,7 +343,7 @@ typedef struct sn_size {
  */
 SN_USE_ANSWER SN_READS(1, 2) SN_WRITES(3, 4)
 sn_sheet sn_settings(const uint8_t *sheet, size_t sheet_length,
-                     uint8_t *name, size_t name_length);
+                     uint8_t *SN_RESTRICT name, size_t name_length);
 
 /*
  * Survey: marks every post and counts peaks, pits and saddles.
@@ -335,7 +362,7 @@ SN_USE_ANSWER SN_READS(1, 2) SN_READS(5, 6) SN_WRITES(7, 8)
 sn_counts sn_survey(const uint8_t *sheet, size_t sheet_length,
                     uint32_t rows, uint32_t columns,
                     const int32_t *heights, size_t heights_length,
-                    uint8_t *marks, size_t marks_length);
+                    uint8_t *SN_RESTRICT marks, size_t marks_length);
 
 /*
  * Re-shoot: puts a new height at one post.
@@ -356,12 +383,14 @@ sn_counts sn_survey(const uint8_t *sheet, size_t sheet_length,
  *                           post that is re-shot counts
  *   SN_NO_SUCH_POST
  *   SN_BAD_NEW_HEIGHT
+ * A height out of range cannot be repaired by a re-shoot, which is refused while
+ * there is one, at whatever post: put it right in the list, and survey again.
  */
 SN_USE_ANSWER SN_READS(1, 2) SN_CHANGES(5, 6) SN_CHANGES(7, 8)
 sn_answer sn_reshoot(const uint8_t *sheet, size_t sheet_length,
                      uint32_t rows, uint32_t columns,
-                     int32_t *heights, size_t heights_length,
-                     uint8_t *marks, size_t marks_length,
+                     int32_t *SN_RESTRICT heights, size_t heights_length,
+                     uint8_t *SN_RESTRICT marks, size_t marks_length,
                      uint32_t post, int32_t height);
 
 /*
@@ -386,7 +415,7 @@ sn_ring_mark sn_ring(const uint8_t *sheet, size_t sheet_length,
                      uint32_t rows, uint32_t columns,
                      const int32_t *heights, size_t heights_length,
                      uint32_t post,
-                     uint8_t *ring, size_t ring_length);
+                     uint8_t *SN_RESTRICT ring, size_t ring_length);
 
 /*
  * Next down: the steepest neighbour below a post, or the post itself if it is a pit.
@@ -446,7 +475,7 @@ sn_entries sn_thalweg(const uint8_t *sheet, size_t sheet_length,
                       uint32_t along_row, uint32_t along_column,
                       const int32_t *heights, size_t heights_length,
                       uint32_t post, uint32_t run,
-                      uint16_t *line, size_t line_length);
+                      uint16_t *SN_RESTRICT line, size_t line_length);
 
 SN_USE_ANSWER SN_READS(1, 2) SN_READS(7, 8) SN_WRITES(11, 12)
 sn_entries sn_ridge(const uint8_t *sheet, size_t sheet_length,
@@ -454,7 +483,7 @@ sn_entries sn_ridge(const uint8_t *sheet, size_t sheet_length,
                     uint32_t along_row, uint32_t along_column,
                     const int32_t *heights, size_t heights_length,
                     uint32_t post, uint32_t run,
-                    uint16_t *line, size_t line_length);
+                    uint16_t *SN_RESTRICT line, size_t line_length);
 
 /*
  * Dales and hills: names for each post the pit at which next down ends, or
@@ -476,11 +505,11 @@ sn_answer sn_dales_and_hills(const uint8_t *sheet, size_t sheet_length,
                              uint32_t rows, uint32_t columns,
                              uint32_t along_row, uint32_t along_column,
                              const int32_t *heights, size_t heights_length,
-                             uint16_t *dales, size_t dales_length,
-                             uint16_t *hills, size_t hills_length);
+                             uint16_t *SN_RESTRICT dales, size_t dales_length,
+                             uint16_t *SN_RESTRICT hills, size_t hills_length);
 
 /*
- * A survey file:
+ * A survey file, which sn_read_survey reads and sn_write_survey writes:
  *
  *     byte 0       version, SN_FILE_VERSION
  *     bytes 1..4   count of the bytes after these, unsigned, big-endian:
@@ -496,12 +525,30 @@ sn_answer sn_dales_and_hills(const uint8_t *sheet, size_t sheet_length,
  * columns, and its heights from byte 7 on. It reads as if both spacings were
  * SN_FILE_SPACING_1.
  *
+ * File posts: how many heights to lend to sn_read_survey for this file, rows * columns
+ * by its bytes 5 and 6. 0 where the file has fewer than SN_FILE_HEADER_1 bytes, or where
+ * bytes 5 and 6 are no plot's sides: sn_read_survey refuses such a file.
+ */
+SN_READS(1, 2)
+SN_INLINE size_t sn_file_posts(const uint8_t *file, size_t file_length)
+{
+    size_t rows, columns;
+
+    if (file_length < SN_FILE_HEADER_1)
+        return 0;
+    rows = file[5];
+    columns = file[6];
+    if (rows < SN_MIN_SIDE || rows > SN_MAX_SIDE || columns < SN_MIN_SIDE || columns > SN_MAX_SIDE)
+        return 0;
+    return rows * columns;
+}
+
+/*
  * Read: rounds to the nearest whole millimetre, a half going to the even one: tenths
  * 5, 15, 25 and -5 become 0, 2, 2 and 0.
  *
  * Reads   file.
- * Writes  heights: every entry. Bytes 5 and 6 of a file of SN_FILE_HEADER_1 bytes
- *         or more tell beforehand how many there must be.
+ * Writes  heights: every entry. sn_file_posts tells beforehand how many there must be.
  * Answers SN_OK with rows, columns and spacings, or in this order
  *   SN_FILE_TOO_SHORT       under SN_FILE_HEADER_1 bytes
  *   SN_BAD_VERSION
@@ -514,7 +561,7 @@ sn_answer sn_dales_and_hills(const uint8_t *sheet, size_t sheet_length,
  */
 SN_USE_ANSWER SN_READS(1, 2) SN_WRITES(3, 4)
 sn_size sn_read_survey(const uint8_t *file, size_t file_length,
-                       int32_t *heights, size_t heights_length);
+                       int32_t *SN_RESTRICT heights, size_t heights_length);
 
 /*
  * Write: a file of version SN_FILE_VERSION, which reads back to the same heights and
@@ -533,7 +580,7 @@ SN_USE_ANSWER SN_READS(5, 6) SN_WRITES(7, 8)
 sn_answer sn_write_survey(uint32_t rows, uint32_t columns,
                           uint32_t along_row, uint32_t along_column,
                           const int32_t *heights, size_t heights_length,
-                          uint8_t *file, size_t file_length);
+                          uint8_t *SN_RESTRICT file, size_t file_length);
 
 #ifdef __cplusplus
 }

@@ -1,7 +1,7 @@
 /*
  * What the header has beside the calls: version, sizes, codes in words, what a mark
- * says, a ring's codes, and the numbers of files, spacings and sheets. Compiles as C89 and
- * later and as C++, and so without a C cast.
+ * says, a ring's codes, the numbers of files, spacings and sheets, and how many heights a
+ * file asks for. Compiles as C89 and later and as C++, and so without a C cast.
  */
 #include "surface_network.h"
 
@@ -55,6 +55,67 @@ static void version(void)
 
     sprintf(text, "%d.%d.%d", SN_VERSION_MAJOR, SN_VERSION_MINOR, SN_VERSION_PATCH);
     check(strcmp(text, SN_VERSION) == 0, "the version as text");
+    check(SN_VERSION_NUMBER / 10000 == SN_VERSION_MAJOR, "the version as a number: major");
+    check(SN_VERSION_NUMBER / 100 % 100 == SN_VERSION_MINOR, "minor");
+    check(SN_VERSION_NUMBER % 100 == SN_VERSION_PATCH, "patch");
+    check(sn_version() == SN_VERSION_NUMBER, "the version of the archive");
+    check(SN_VERSION_MATCHES() == 1, "the versions match");
+}
+
+/* A file of version 2, with heights of 0. */
+static uint8_t file[SN_MAX_FILE];
+static int32_t filed[SN_MAX_POSTS + 1];
+
+static void put_header(uint8_t rows, uint8_t columns, size_t count)
+{
+    file[0] = SN_FILE_VERSION;
+    file[1] = file[2] = 0;
+    file[3] = count >> 8 & 255;
+    file[4] = count & 255;
+    file[5] = rows;
+    file[6] = columns;
+    file[7] = file[9] = 0;
+    file[8] = file[10] = 1;
+}
+
+static int is_side(uint8_t side)
+{
+    return side >= SN_MIN_SIDE && side <= SN_MAX_SIDE;
+}
+
+/* Of every two sides: the heights that a read takes, and no others. */
+static void file_posts(void)
+{
+    uint8_t rows = 0, columns = 0;
+    size_t length, posts, size;
+    int lent = 1, refused = 1, told = 1, early = 1, accepted = 0;
+
+    do {
+        do {
+            posts = is_side(rows) && is_side(columns) ? SN_TO_SIZE(rows) * columns : 0;
+            size = posts == 0 ? SN_FILE_HEADER : SN_FILE_SIZE(rows, columns);
+            put_header(rows, columns, size - 5);
+            for (length = 0; length < SN_FILE_HEADER_1; length++)
+                early = early && sn_file_posts(file, length) == 0;
+            for (; length <= SN_FILE_HEADER; length++)
+                told = told && sn_file_posts(file, length) == posts;
+            told = told && sn_file_posts(file, size) == posts;
+            if (posts == 0) {
+                refused = refused && sn_read_survey(file, size, filed, 0).code == SN_BAD_SIDES;
+                continue;
+            }
+            lent = lent && sn_read_survey(file, size, filed, posts).code == SN_OK;
+            refused = refused &&
+                sn_read_survey(file, size, filed, posts - 1).code == SN_BAD_LIST_LENGTH &&
+                sn_read_survey(file, size, filed, posts + 1).code == SN_BAD_LIST_LENGTH;
+            accepted++;
+        } while (++columns != 0);
+    } while (++rows != 0);
+    check(accepted == 119 * 119, "the sides of all plots");
+    check(early && sn_file_posts(SN_NO_BYTES, 0) == 0, "no posts under seven bytes");
+    check(told, "posts of a file");
+    check(lent, "as many are what a read takes");
+    check(refused, "and another number is not");
 }
 
 static void codes(void)
@@ -213,6 +274,7 @@ int main(void)
     sizes();
     spacings_alone();
     version();
+    file_posts();
     codes();
     marks_alone();
     ring_alone();

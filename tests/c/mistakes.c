@@ -1,18 +1,25 @@
 /*
- * Mistakes of which the header makes gcc warn, by -DMISTAKE: 1 to 29 a length beyond
- * its list, for each list of each call; 30 to 32 a null list with a length; 33 to 35
- * an answer that is not looked at; 0 none.
+ * Mistakes of which the header makes gcc warn, by -DMISTAKE: 1 to 30 a length beyond
+ * its list, for each list of each call; 31 to 33 a null list with a length; 34 to 37
+ * an answer that is not looked at; 38 to 56 a list that a call writes lent as another
+ * of its lists too, for each two of them; 0 none.
  */
 #include "surface_network.h"
 
 #define LENGTH_OF(list, length) (MISTAKE == (list) ? (length) + 1 : (length))
 #define LENGTH(list) LENGTH_OF(list, 9)
 
+/* A list, or another one in its place. */
+#define BYTES(mistake, list, other) ((uint8_t *)OR(mistake, list, other))
+#define ENTRIES(mistake, list, other) ((uint16_t *)OR(mistake, list, other))
+#define HEIGHTS(mistake, list, other) ((int32_t *)OR(mistake, list, other))
+#define OR(mistake, list, other) (MISTAKE == (mistake) ? (void *)(other) : (void *)(list))
+
 static int32_t heights[9];
 static uint8_t sheet[9], name[SN_MAX_NAME], marks[9], ring[SN_RING_LENGTH], file[9];
 static uint16_t line[9], dales[9], hills[9];
 
-int main(void)
+static uint32_t lengths(void)
 {
     uint32_t sum = 0;
 
@@ -31,16 +38,66 @@ int main(void)
                               LENGTH(24), hills, LENGTH(25)).code;
     sum += sn_read_survey(file, LENGTH(26), heights, LENGTH(27)).code;
     sum += sn_write_survey(3, 3, 1, 1, heights, LENGTH(28), file, LENGTH(29)).code;
-    sum += sn_survey(SN_NO_SHEET, 3, 3, heights, 9, MISTAKE == 30 ? NULL : marks, 9).code;
-    sum += sn_ring(SN_NO_SHEET, 3, 3, heights, 9, 0, MISTAKE == 31 ? NULL : ring,
+    return sum + (uint32_t)sn_file_posts(file, LENGTH(30));
+}
+
+static uint32_t nulls(void)
+{
+    uint32_t sum = 0;
+
+    sum += sn_survey(SN_NO_SHEET, 3, 3, heights, 9, MISTAKE == 31 ? NULL : marks, 9).code;
+    sum += sn_ring(SN_NO_SHEET, 3, 3, heights, 9, 0, MISTAKE == 32 ? NULL : ring,
                    SN_RING_LENGTH).code;
-    sum += sn_settings(MISTAKE == 32 ? NULL : sheet, 9, name, SN_MAX_NAME).code;
-#if MISTAKE == 33
+    sum += sn_settings(MISTAKE == 33 ? NULL : sheet, 9, name, SN_MAX_NAME).code;
+    /* No mistake: without entries two lists may both be null. */
+    return sum + sn_read_survey(NULL, 0, NULL, 0).code;
+}
+
+static uint32_t answers(void)
+{
+#if MISTAKE == 34
     sn_survey(SN_NO_SHEET, 3, 3, heights, 9, marks, 9);
-#elif MISTAKE == 34
-    sn_ring(SN_NO_SHEET, 3, 3, heights, 9, 0, ring, SN_RING_LENGTH);
 #elif MISTAKE == 35
+    sn_ring(SN_NO_SHEET, 3, 3, heights, 9, 0, ring, SN_RING_LENGTH);
+#elif MISTAKE == 36
     sn_settings(sheet, 9, name, SN_MAX_NAME);
+#elif MISTAKE == 37
+    sn_version();
 #endif
-    return sum == 0;
+    return 0;
+}
+
+static uint32_t shared_lists(void)
+{
+    uint32_t sum = 0;
+
+    sum += sn_settings(sheet, 9, BYTES(38, name, sheet), 9).code;
+    sum += sn_survey(sheet, 9, 3, 3, heights, 9, BYTES(39, marks, sheet), 9).code;
+    sum += sn_survey(sheet, 9, 3, 3, heights, 9, BYTES(40, marks, heights), 9).code;
+    sum += sn_reshoot(sheet, 8, 3, 3, HEIGHTS(41, heights, sheet), 2, marks, 9, 0, 0).code;
+    sum += sn_reshoot(sheet, 8, 3, 3, heights, 9, BYTES(42, marks, sheet), 9, 0, 0).code;
+    sum += sn_reshoot(sheet, 8, 3, 3, heights, 9, BYTES(43, marks, heights), 9, 0, 0).code;
+    sum += sn_ring(sheet, 8, 3, 3, heights, 9, 0, BYTES(44, ring, sheet), 8).code;
+    sum += sn_ring(sheet, 8, 3, 3, heights, 9, 0, BYTES(45, ring, heights), 8).code;
+    sum += sn_thalweg(sheet, 8, 3, 3, 1, 1, heights, 9, 0, 0, ENTRIES(46, line, sheet), 4).code;
+    sum += sn_thalweg(sheet, 8, 3, 3, 1, 1, heights, 9, 0, 0, ENTRIES(47, line, heights), 9).code;
+    sum += sn_ridge(sheet, 8, 3, 3, 1, 1, heights, 9, 0, 0, ENTRIES(48, line, sheet), 4).code;
+    sum += sn_ridge(sheet, 8, 3, 3, 1, 1, heights, 9, 0, 0, ENTRIES(49, line, heights), 9).code;
+    sum += sn_dales_and_hills(sheet, 8, 3, 3, 1, 1, heights, 9, ENTRIES(50, dales, sheet), 4,
+                              hills, 9).code;
+    sum += sn_dales_and_hills(sheet, 8, 3, 3, 1, 1, heights, 9, ENTRIES(51, dales, heights), 9,
+                              hills, 9).code;
+    sum += sn_dales_and_hills(sheet, 8, 3, 3, 1, 1, heights, 9, dales, 9,
+                              ENTRIES(52, hills, sheet), 4).code;
+    sum += sn_dales_and_hills(sheet, 8, 3, 3, 1, 1, heights, 9, dales, 9,
+                              ENTRIES(53, hills, heights), 9).code;
+    sum += sn_dales_and_hills(sheet, 8, 3, 3, 1, 1, heights, 9, dales, 9,
+                              ENTRIES(54, hills, dales), 9).code;
+    sum += sn_read_survey(file, 9, HEIGHTS(55, heights, file), 2).code;
+    return sum + sn_write_survey(3, 3, 1, 1, heights, 9, BYTES(56, file, heights), 9).code;
+}
+
+int main(void)
+{
+    return lengths() + nulls() + answers() + shared_lists() == 0;
 }

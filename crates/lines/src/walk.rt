@@ -6,7 +6,8 @@ use surface::VIRTUAL_PIT;
 ghost use mathlib.Core.Path.{_≡_};
 ghost use lib.ListN.{length};
 ghost use Rattle.surface.specs.Plot.{plotOf, PostOf};
-ghost use Rattle.surface.specs.Lines.{Spaced, next, toward};
+ghost use Rattle.surface.specs.Spacings.{Spaced};
+ghost use Rattle.surface.specs.Lines.{next, toward};
 ghost use Rattle.lines.specs.Walks.{WalkOf, path};
 
 // Where a walk stands, at a post or in the virtual pit, and whether it goes up.

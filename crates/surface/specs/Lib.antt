@@ -47,6 +47,7 @@ pub mod SurveyFile
 pub mod Settings
 pub mod Refusals
 pub mod Calls
+pub mod Version
 pub mod Series
 pub mod Lister
 -- OfCalls: what is proved of them. Demand: demand 3. Steepest: of next and lines. Sheets: of settings sheets. Grounds: of the ring call. FirstVersion: of survey

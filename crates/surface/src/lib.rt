@@ -1,5 +1,12 @@
 // What the calls share: their answers, the grid that the functions below them work on, and the numbers of docs/SPECIFICATION.md by name.
 
+// The version of the library, which sn_version and the lister tell. The header has it too, and the tests hold the two to each other.
+pub const VERSION_MAJOR: u32 = 4;
+
+pub const VERSION_MINOR: u32 = 1;
+
+pub const VERSION_PATCH: u32 = 0;
+
 // The most rows or columns that a plot may have, and the most posts.
 pub const MAX_SIDE: usize = 120;
 

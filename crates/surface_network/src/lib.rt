@@ -7,10 +7,21 @@ use surface::Next;
 use surface::RingMark;
 use surface::Sheet;
 use surface::Size;
+use surface::VERSION_MAJOR;
+use surface::VERSION_MINOR;
+use surface::VERSION_PATCH;
 ghost use mathlib.Core.Path.{_≡_};
 ghost use Rattle.surface.specs.Plot.{plot};
 ghost use Rattle.surface.specs.Spacings.{spacings};
 ghost use Rattle.surface.specs.Calls.{plotBy, settingsAnswer, settingsName, surveyAnswer, surveyMarks, reshootAnswer, reshootHeights, reshootMarks, ringAnswer, ringList, nextDownAnswer, nextUpAnswer, thalwegAnswer, thalwegList, ridgeAnswer, ridgeList, partsAnswer, partsDales, partsHills, readAnswer, readHeights, writeAnswer, writeFile};
+ghost use Rattle.surface.specs.Version.{version};
+
+#[no_mangle]
+pub extern "C" fn sn_version() -> u32
+    ensures { λ r. ⌜ r ≡ version ⌝ }
+{
+    VERSION_MAJOR * 10000 + VERSION_MINOR * 100 + VERSION_PATCH
+}
 
 #[no_mangle]
 pub extern "C" fn sn_settings(sheet: &[u8], name: &mut [u8]) -> Sheet

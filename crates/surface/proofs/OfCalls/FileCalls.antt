@@ -71,15 +71,15 @@ module _ (file : List ℕ) (hs : List ℤ) where
   valid-read r =
       let present : statedCount file ≡ length file - 5 = omega (arith, r .stated, r .size) in
       clear-accepted (
-        le-ltb (length file) 7 (omega (arith, r .size, header-bounds (versionIn file)))
-        ⨟ ap not (r .version)
-        ⨟ le-ltb (length file) (headerFor (versionIn file)) (omega (arith, r .size))
-        ⨟ ap not (sides-test (r .sides))
-        ⨟ row15-passes (r .spaced)
-        ⨟ rw (equal-test (statedCount file) (length file - 5) present) (equal-test _ _ (r .stated))
-        ⨟ equal-test (length hs) (postsIn file) (r .room)
-        ⨟ clear-by-post isTenths (λ _. 4) (tenthsOf file (postsIn file)) .1 (r .tenths)
-        ⨟ done
+      le-ltb (length file) 7 (omega (arith, r .size, header-bounds (versionIn file)))
+      ⨟ ap not (r .version)
+      ⨟ le-ltb (length file) (headerFor (versionIn file)) (omega (arith, r .size))
+      ⨟ ap not (sides-test (r .sides))
+      ⨟ row15-passes (r .spaced)
+      ⨟ rw (equal-test (statedCount file) (length file - 5) present) (equal-test _ _ (r .stated))
+      ⨟ equal-test (length hs) (postsIn file) (r .room)
+      ⨟ clear-by-post isTenths (λ _. 4) (tenthsOf file (postsIn file)) .1 (r .tenths)
+      ⨟ done
       )
 
   pub read-code : readAnswer file hs .code ≡ readVerdict file hs .code

@@ -75,17 +75,17 @@ module _ (pl : Plot) (s : Spacings) (d : Descent) (post run : ℕ) (list : List 
   unfolding lineVerdict
   valid-line sheet v spaced f =
       clear-accepted (
-        sheet .0
-        ⨟ sheet .1
-        ⨟ row1-passes pl v
-        ⨟ row15-passes spaced
-        ⨟ row2-passes pl v
-        ⨟ row4-passes pl v
-        ⨟ ap not (lt-ltb post (posts pl) (f .postIn))
-        ⨟ ap not (f .saddle)
-        ⨟ ap not (lt-ltb run _ (f .runIn))
-        ⨟ le-ltb (length list) _ (f .room)
-        ⨟ done
+      sheet .0
+      ⨟ sheet .1
+      ⨟ row1-passes pl v
+      ⨟ row15-passes spaced
+      ⨟ row2-passes pl v
+      ⨟ row4-passes pl v
+      ⨟ ap not (lt-ltb post (posts pl) (f .postIn))
+      ⨟ ap not (f .saddle)
+      ⨟ ap not (lt-ltb run _ (f .runIn))
+      ⨟ le-ltb (length list) _ (f .room)
+      ⨟ done
       )
 
   -- what the call answers and leaves

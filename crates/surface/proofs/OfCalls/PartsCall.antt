@@ -40,14 +40,14 @@ module _ (pl : Plot) (s : Spacings) (dales hills : List ℕ) where
   valid-parts f =
       let v = f .valid in
       clear-accepted (
-        f .sheet .0
-        ⨟ f .sheet .1
-        ⨟ row1-passes pl v
-        ⨟ row15-passes (f .spaced)
-        ⨟ row2-passes pl v
-        ⨟ rw (equal-test _ _ (f .dalesSize)) (equal-test _ _ (f .hillsSize))
-        ⨟ row4-passes pl v
-        ⨟ done
+      f .sheet .0
+      ⨟ f .sheet .1
+      ⨟ row1-passes pl v
+      ⨟ row15-passes (f .spaced)
+      ⨟ row2-passes pl v
+      ⨟ rw (equal-test _ _ (f .dalesSize)) (equal-test _ _ (f .hillsSize))
+      ⨟ row4-passes pl v
+      ⨟ done
       )
 
   pub size-refused : (verdict (leadingSpaced pl s) .code ≡ 0 → ⊥) → partsVerdict pl s dales hills ≡ verdict (leadingSpaced pl s)

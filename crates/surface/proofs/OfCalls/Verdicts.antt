@@ -93,7 +93,6 @@ accepted-clear (r ∷ rs) n =
 
 -- no row holds, the first nor the others
 infixr 60 _⨟_
-
 pub data Clear : List Row → Type 0 where
   done : Clear []
   _⨟_ : {r : Row} {rs : List Row} → r .holds ≡ false → Clear rs → Clear (r ∷ rs)
