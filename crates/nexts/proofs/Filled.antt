@@ -1,7 +1,5 @@
 -- Lists that are filled with next posts, a turn and a stretch at a time.
-use Prim.Native.Nat.{ℕ, _+_, _*_, _≤_, _<_}
-use native.Mathlib.Omega.{arith}
-use native.Mathlib.Nat.{mul-le-mul-right, suc-mul}
+use Prim.Native.Nat.{ℕ, _+_, _<_}
 use mathlib.Core.Path.{_≡_, refl, _∙_, ap}
 use mathlib.Core.Logic.{inl}
 use mathlib.Core.Bool.{Bool, true, false, cond}
@@ -22,10 +20,6 @@ pub next-fits : {pl : Plot} {p : ℕ} → PostOf pl p → (s : Spacings) → (ne
 next-fits {pl} {p} i s =
     let sides = i .valid .sides in
     (vertex-low sides (next-vertex (down-falling pl sides s) p (inl (i .post))), vertex-low sides (next-vertex (up-falling pl sides s) p (inl (i .post))))
-
--- a row's posts are posts of the plot
-pub row-in : {rows : ℕ} (columns r : ℕ) → r < rows → r * columns + columns ≤ rows * columns
-row-in columns r h = omega (arith, mul-le-mul-right columns h, suc-mul r columns)
 
 pub filled-none : (pl : Plot) (s : Spacings) (both : Bool) (from : ℕ) (downs ups : List ℕ) → NextsFilled pl s both from 0 downs ups downs ups
 unfolding stores

@@ -1,15 +1,10 @@
 -- Posts or rows met from the first on, or from the last.
-use Prim.Native.Nat.{ℕ, _+_, _-_, _*_, _≤_, _<_}
+use Prim.Native.Nat.{ℕ, _+_, _-_, _<_}
 use native.Mathlib.Omega.{arith}
-use native.Mathlib.Nat.{mul-le-mul-right, suc-mul}
 use native.Mathlib.Decide.{ℕ-discrete}
 use mathlib.Core.Path.{_≡_, refl}
 use mathlib.Core.Logic.{_⊎_, inl, inr}
 use mathlib.Core.Bool.{Bool, true, false, cond}
-
--- a row's posts are posts of the plot
-pub row-in : {rows : ℕ} (columns r : ℕ) → r < rows → r * columns + columns ≤ rows * columns
-row-in columns r h = omega (arith, mul-le-mul-right columns h, suc-mul r columns)
 
 -- the one of turn i
 abbrev pub met : Bool → ℕ → ℕ → ℕ

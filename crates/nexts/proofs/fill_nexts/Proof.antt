@@ -6,7 +6,8 @@ use mathlib.Core.Path.{_≡_, refl, ap}
 use Rattle.surface.specs.Plot.{plotOf, Sides}
 use Rattle.post.proofs.Rows.{top-border, bottom-border}
 use Rattle.nexts.specs.Filled.{ForNexts, NextsFilled}
-use Rattle.nexts.proofs.Filled.{row-in, filled-none, filled-join, filled-lists, downs-long, ups-long}
+use Rattle.surface.proofs.AnyOrder.Grid.{row-in}
+use Rattle.nexts.proofs.Filled.{filled-none, filled-join, filled-lists, downs-long, ups-long}
 use Rattle.nexts.proofs.fill_nexts.Statement.{statement}
 use Rattle.nexts.proofs.fill_nexts.Tie as tie
 

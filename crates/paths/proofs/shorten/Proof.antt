@@ -11,7 +11,7 @@ use Rattle.surface.specs.Plot.{row, Sides}
 use Rattle.surface.proofs.General.ListOf.{length-listOf, getD-listOf}
 use Rattle.surface.proofs.AnyOrder.Grid.{post-is, column-lt, row-lt}
 use Rattle.paths.specs.Paths.{pathEnd, InRow, Settled}
-use Rattle.paths.proofs.Turns.{row-in}
+use Rattle.surface.proofs.AnyOrder.Grid.{row-in}
 use Rattle.paths.proofs.Shorter.{entry, settled-none, settled-then, settled-of}
 use Rattle.paths.proofs.Turns.{met, met-in, met-all, Before, before-more}
 use Rattle.paths.proofs.shorten.Statement.{statement}

@@ -3,7 +3,7 @@ use Prim.Native.Nat.{ℕ, _+_, _-_, _*_, _≤_, _<_}
 use mathlib.Core.Path.{_≡_, refl, sym, ap, _∙_}
 use mathlib.Core.Bool.{Bool, true, false, _&&_, and-eq-true-iff}
 use mathlib.Core.Logic.{_↔_, ⊎-elim}
-use native.Mathlib.Nat.{div-add-mod', mod-lt, div-lt-iff-lt-mul, le-div-iff-mul-le, add-div-right, add-mod-right, mul-add-div-right, mul-add-mod-self-right, div-eq-of-lt, mod-eq-of-lt, mul-le-mul, mul-le-mul-right, two-mul, add-mul, one-mul}
+use native.Mathlib.Nat.{div-add-mod', mod-lt, div-lt-iff-lt-mul, le-div-iff-mul-le, add-div-right, add-mod-right, mul-add-div-right, mul-add-mod-self-right, div-eq-of-lt, mod-eq-of-lt, mul-le-mul, mul-le-mul-right, two-mul, suc-mul, add-mul, one-mul}
 use native.Mathlib.Omega.{arith}
 use lib.Dec.{leb, eqb}
 use borrow.Author.Tests.{leb-true, le-leb, eqb-true, eqb-false, eq-eqb, ne-eqb}
@@ -23,6 +23,10 @@ test-sides rows columns h =
 
 pub sides-test : {rows columns : ℕ} → Sides rows columns → isSide rows && isSide columns ≡ true
 sides-test {rows} {columns} s = rw (le-leb 2 rows (s .tall), le-leb rows maxSide (s .low), le-leb 2 columns (s .wide), le-leb columns maxSide (s .narrow))
+
+-- a row's posts are posts of the plot
+pub row-in : {rows : ℕ} (columns r : ℕ) → r < rows → r * columns + columns ≤ rows * columns
+row-in columns r h = omega (arith, mul-le-mul-right columns h, suc-mul r columns)
 
 -- post number = row times columns plus column
 pub post-is : (columns p : ℕ) → row columns p * columns + column columns p ≡ p
