@@ -45,7 +45,7 @@ cast-t14 c =
 returns-2 : tie.Need-returns-2
 returns-2 c =
     let s = served (c .before .before) in
-    rw (s .same) (rw (next-accepted _ _ _ (s .passed), c .before .next .ensures))
+    rw (s .samePlot) (rw (next-accepted _ _ _ (s .passed), c .before .next .ensures))
 
 pub next-post-spec : {M : Type 1} → statement M
 next-post-spec = tie.close (tie.spec (search needs) returns (search needs) next-requires cast-t14 returns-2)

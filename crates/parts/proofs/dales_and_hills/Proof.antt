@@ -79,7 +79,7 @@ returns-2 c =
     let k = parts-filled _ _ _ _ (s .passed) in
     rw (← (v .before .before .before .read-sheet .ensures)) (
       v .verdict .ensures,
-      rw (s .same) (
+      rw (s .samePlot) (
         d .shorten .ensures ∙ dales-named (lent g) (f .fill-nexts .ensures) ∙ sym (k .0),
         h .shorten2 .ensures ∙ hills-named (lent g) (f .fill-nexts .ensures) ∙ sym (k .1),
       ),

@@ -45,7 +45,7 @@ returns-2 c =
     let s = ring-served _ _ _ (d .passed) in
     let m = c .before .mark-at .ensures in
     let k = c .runs-for .ensures ∙ ap runsFor m ∙ sym (mark-runs _ _ (accepted at .postOf)) in
-    rw (← (at .before .before .before .before .read-sheet .ensures), d .same) (rw (k, m) (sym (s .0)), c .before .before .before .before .put-codes .ensures ∙ sym (s .1))
+    rw (← (at .before .before .before .before .read-sheet .ensures), d .samePlot) (rw (k, m) (sym (s .0)), c .before .before .before .before .put-codes .ensures ∙ sym (s .1))
 
 pub ring-spec : {M : Type 1} → statement M
 ring-spec = tie.close (tie.spec (search needs) (search needs) (search needs) returns (search needs) put-codes-requires mark-at-requires (search needs) (search needs) (search needs) returns-2)

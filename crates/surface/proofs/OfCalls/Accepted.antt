@@ -82,7 +82,7 @@ SheetPasses pl = (pl.badSheet ≡ false) × (pl.badEntry ≡ false)
 -- the verdict on it is acceptance too.
 module _ (said : Sheet) (rows columns : ℕ) (heights : List ℤ) where
   pub record Served (verdictOn : Plot → Answer) (grid : Grid) : Type 0 where
-    pub same : plotSaid said rows columns heights ≡ plotOf grid heights
+    pub samePlot : plotSaid said rows columns heights ≡ plotOf grid heights
     pub passed : verdictOn (plotOf grid heights) .code ≡ 0
 
   pub serve : (verdictOn : Plot → Answer) → (verdictOn (plotSaid said rows columns heights) .code ≡ 0 → SheetPasses (plotSaid said rows columns heights))
@@ -94,4 +94,4 @@ module _ (said : Sheet) (rows columns : ℕ) (heights : List ℤ) where
       let same : plotSaid said rows columns heights ≡ plotOf (gridSaid said rows columns) heights =
       ap₂ (λ (a b : Bool). record { rows = rows; columns = columns; heights = heights; badSheet = a; badEntry = b; highest = eqb (said .rule) 2 }) (s .0) (s .1)
       in
-      rw g (record { same = same; passed = sym (ap (λ (pl : Plot). verdictOn pl .code) same) ∙ h })
+      rw g (record { samePlot = same; passed = sym (ap (λ (pl : Plot). verdictOn pl .code) same) ∙ h })

@@ -67,7 +67,7 @@ returns-2 c =
     let k = reshoot-filled _ _ _ _ (s .passed) in
     rw (← (v .before .before .before .read-sheet .ensures)) (
       said v,
-      rw (s .same) (rw h (sym (k .0)), rw h at (c .before .before .redraw .ensures) ∙ sym (k .1)),
+      rw (s .samePlot) (rw h (sym (k .0)), rw h at (c .before .before .redraw .ensures) ∙ sym (k .1)),
     )
 
 pub reshoot-spec : {M : Type 1} → statement M

@@ -50,7 +50,7 @@ returns-2 c =
     let s = served at in
     let w = m .mark-plot .ensures ∙ sym (survey-filled _ _ (s .passed)) in
     let n = rw w at (c .count .ensures) in
-    rw (← (at .before .before .before .before .read-sheet .ensures), s .same)
+    rw (← (at .before .before .before .before .read-sheet .ensures), s .samePlot)
     (rw (n .peaksAre, n .pitsAre, n .saddlesAre) (sym (survey-served _ _ (s .passed))), w)
 
 pub survey-spec : {M : Type 1} → statement M

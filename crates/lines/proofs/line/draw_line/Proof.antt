@@ -33,7 +33,7 @@ draw-from-requires c κs = served (c .before) .passed
 lent : (c : tie.After-grid-of) → let v = c .before .before .before in
     let a = start v .args in
     plotBy (a .sheet .now) (a .rows) (a .columns) (a .heights .now) ≡ plotOf (gridSaid (v .before .read-sheet .result) (a .rows) (a .columns)) (a .heights .now)
-lent c = rw (← (c .before .before .before .before .read-sheet .ensures)) (rw (c .grid-of .ensures) at (served c .same))
+lent c = rw (← (c .before .before .before .before .read-sheet .ensures)) (rw (c .grid-of .ensures) at (served c .samePlot))
 
 returns-2 : tie.Need-returns-2
 returns-2 c =
