@@ -56,8 +56,8 @@ uninstall: folders ## removes what install put there; folders stay
 	rm -f $(INCLUDE)/surface_network.h $(LIB)/libsurface_network.a $(PKGCONFIG)/surface_network.pc \
 	    $(BIN)/surface-network-lister $(MAN)/surface-network-lister.1
 
-# The pkg-config file names these folders: they must mean the same from every folder, and
-# what pkg-config prints goes through a shell, which would part or change other signs.
+# The pkg-config file names the first two of these folders: they must mean the same from every
+# folder, and what pkg-config prints goes through a shell, which would part or change other signs.
 folders:
 	@LC_ALL=C; for name in PREFIX LIBDIR MANDIR; do \
 	    case $$name in \

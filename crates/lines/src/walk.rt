@@ -29,8 +29,8 @@ impl Walk {
         }
     }
 
-    // The same from any vertex: in the virtual pit it stays. Not by `next`: a step that one function alone calls is put into it, which is then too large to be
-    // put into the loops, and walks would go through memory.
+    // The same from any vertex: in the virtual pit it stays. It does not call `next`: the compiler puts a function into its one caller, and `next` would then be too
+    // large for the loops that walk.
     pub fn onward(self, heights: &[i32], grid: Grid, spacings: Spacings) -> Walk
         requires { ⌜ WalkOf (plotOf grid (now heights)) spacings self ⌝ }
         ensures { λ r. ⌜ r ≡ record { post = next (toward (plotOf grid (now (heights .entry))) spacings (self .up)) (self .post); up = self .up } ⌝ }

@@ -1,4 +1,4 @@
-// Settings sheets (docs/SPECIFICATION.md, "Settings sheet"): what a sheet says, and the call that tells it.
+// Settings sheets (docs/SPECIFICATION.md, "Settings sheet"): what a sheet says, the grid of a call with it, and the call that tells it.
 mod entries;
 mod frame;
 
@@ -89,7 +89,7 @@ fn clear_from(list: &mut [u8], n: usize)
     }
 }
 
-// How many of these bytes the list takes. A name never has more, which `put_name` need not be told so.
+// How many of these bytes the list takes. A name never has more; `put_name` need not know that.
 fn at_most(bytes: usize) -> usize
     ensures { λ r. ⌜ r ≡ min bytes nameLength ⌝ }
 {

@@ -1,4 +1,4 @@
--- Example survey files of version 2.
+-- docs/SPECIFICATION.md, "Example plots": survey files of version 2.
 use Prim.Native.Nat.{ℕ}
 use mathlib.Core.Path.{_≡_}
 use mathlib.Core.List.{List, [], _∷_, _++_}

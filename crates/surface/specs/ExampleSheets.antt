@@ -1,4 +1,4 @@
--- Example settings sheets: each way to be bad, and two plots by rule 2.
+-- docs/SPECIFICATION.md, "Example plots": settings sheets: each way to be bad, and two plots by rule 2.
 use Prim.Native.Nat.{ℕ}
 use mathlib.Core.Path.{_≡_}
 use mathlib.Core.List.{List, [], _∷_, _++_}

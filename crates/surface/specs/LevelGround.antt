@@ -1,4 +1,4 @@
--- Example plots of level ground, where the drive decides, by either rule.
+-- docs/SPECIFICATION.md, "Example plots": level ground, where the drive decides, by either rule.
 use mathlib.Core.Path.{_≡_}
 use mathlib.Core.Bool.{Bool, true, false}
 use mathlib.Core.List.{[], _∷_, _++_}

@@ -1,4 +1,4 @@
--- Example plots of slopes, by several spacings.
+-- docs/SPECIFICATION.md, "Example plots": slopes, by several spacings.
 use Prim.Native.Nat.{ℕ}
 use mathlib.Core.Path.{_≡_}
 use mathlib.Core.Bool.{Bool, true, false}

@@ -1,4 +1,4 @@
--- docs/SPECIFICATION.md, "Example plots": those that were starred, all together, over the outcomes of the calls.
+-- docs/SPECIFICATION.md, "Example plots": flat, crossed, star, hollow and the roundings, all together, over the outcomes of the calls.
 use Prim.Native.Nat.{ℕ}
 use mathlib.Core.Path.{_≡_}
 use mathlib.Core.List.{List, [], _∷_, _++_}
