@@ -9,8 +9,8 @@ use Rattle.surface.proofs.General.Bools.{or-left, or-right}
 use Rattle.surface.proofs.AnyOrder.Grid.{top-false, bottom-false, row-south, column-south, row-north, column-north, row-east, column-east, row-west, column-west, east-post, south-left, south-right, north-left, north-right}
 use Rattle.order.specs.Ties.{Near, Stands}
 use Rattle.order.proofs.Places.{stands-near}
-use Rattle.post.specs.Corners.{bordersOf}
-use Rattle.post.proofs.Around.{south-east}
+use Rattle.rings.specs.Corners.{bordersOf}
+use Rattle.rings.proofs.Around.{south-east}
 use Rattle.keys.specs.Keys.{There, inside}
 
 -- one step aside

@@ -6,8 +6,8 @@ use lib.IntN.{ℤ, pos, negsuc, _+ℤ_, _*ℤ_}
 use lib.Signed.{ltZ, shrZ}
 use Rattle.surface.specs.Plot.{Plot, posts, height}
 use Rattle.order.specs.Ties.{Stands, tiePlace}
-use Rattle.post.specs.declared.border.Borders.{Borders}
-use Rattle.post.specs.declared.corner.Corners.{Corners}
+use Rattle.rings.specs.declared.border.Borders.{Borders}
+use Rattle.rings.specs.declared.corner.Corners.{Corners}
 use Rattle.keys.specs.declared.Block.{Block}
 
 abbrev pub keyBy : ℤ → ℕ → ℤ

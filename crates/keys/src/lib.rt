@@ -1,14 +1,14 @@
 // The posts round a post as keys: a post's height and its place among the nine, in one number, so that one comparison settles a tie too.
 use order::post_at;
 use order::tie_place;
-use post::border::Borders;
+use rings::border::Borders;
 use surface::Grid;
 ghost use mathlib.Core.Path.{_≡_};
 ghost use mathlib.Core.Bool.{true, false, cond};
 ghost use Prim.Native.Nat.{_+_, _-_, _*_, _≤_, _<_};
 ghost use Rattle.surface.specs.Plot.{plotOf, maxSide, maxPosts, row, isOdd, PostOf};
 ghost use Rattle.surface.specs.Edges.{isBorder};
-ghost use Rattle.post.specs.Corners.{bordersOf};
+ghost use Rattle.rings.specs.Corners.{bordersOf};
 ghost use Rattle.keys.specs.Keys.{keyOf, isKey, numberIn, There, inside, blockOf};
 
 // A place is below this, so that heights count first.

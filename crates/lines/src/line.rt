@@ -3,7 +3,7 @@ use crate::walk::Walk;
 use crate::walk::entries_of;
 use limits::post_verdict;
 use post::mark::mark_at;
-use post::ring::ring_at;
+use rings::ring::ring_at;
 use runs::line_start;
 use settings::grid_of;
 use settings::read_sheet;

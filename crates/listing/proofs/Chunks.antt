@@ -15,7 +15,7 @@ use Rattle.surface.specs.Lister.{linesText, saddleLines, postLines}
 use Rattle.surface.proofs.General.Bools.{either}
 use Rattle.surface.proofs.General.ListOf.{length-listOf, getD-listOf, listOf-ext}
 use Rattle.surface.specs.declared.Spacings.{Spacings}
-use Rattle.post.specs.declared.ring.Ring.{Ring}
+use Rattle.rings.specs.declared.ring.Ring.{Ring}
 use Rattle.runs.specs.Runs.{Saddle}
 use Rattle.text.specs.Wrote.{Wrote}
 use Rattle.listing.specs.Lines.{runsRoom, postRoom, linesFrom, SaddleWith, Known, Listed}

@@ -18,7 +18,7 @@ use Rattle.surface.proofs.AnyOrder.Grid.{not-pit}
 use Rattle.surface.proofs.AnyOrder.Walks.{Falling, end-stop, pit-stop}
 use Rattle.surface.proofs.OfPlots.Instance.{toward-falling}
 use Rattle.surface.specs.declared.Spacings.{Spacings}
-use Rattle.post.specs.declared.ring.Ring.{Ring}
+use Rattle.rings.specs.declared.ring.Ring.{Ring}
 use Rattle.runs.specs.declared.Start.{Start}
 use Rattle.runs.specs.Runs.{Starts}
 use Rattle.runs.proofs.Ringed.{start-vertex}

@@ -12,7 +12,7 @@ use Rattle.surface.specs.Lines.{Descent, end, line, toward, dalesOf, hillsOf}
 use Rattle.surface.specs.Spacings.{Spaced}
 use Rattle.surface.specs.Lister.{lineText, postLines}
 use Rattle.surface.specs.declared.Spacings.{Spacings}
-use Rattle.post.specs.declared.ring.Ring.{Ring}
+use Rattle.rings.specs.declared.ring.Ring.{Ring}
 use Rattle.runs.specs.Runs.{Saddle}
 use Rattle.listing.specs.declared.posts.Put.{Put}
 

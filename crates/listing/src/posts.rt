@@ -1,7 +1,7 @@
 // The lines of one saddle after the other. Which posts are saddles is known from the list of marks, and where a line ends from those of dales and hills, so
 // that no mark is worked out and no line is walked.
-use post::ring::Ring;
-use post::ring::ring_at;
+use rings::ring::Ring;
+use rings::ring::ring_at;
 use runs::line_start;
 use surface::DOWN;
 use surface::Grid;

@@ -18,10 +18,10 @@ use Rattle.surface.proofs.General.Bools.{either}
 use Rattle.surface.proofs.AnyOrder.Grid.{top-false, not-left}
 use Rattle.surface.proofs.AnyOrder.Locality.{read-agree}
 use Rattle.surface.proofs.General.Order.{StrictTotal}
-use Rattle.post.specs.Corners.{bordersOf, cornersOf}
-use Rattle.post.specs.declared.border.Borders.{Borders}
-use Rattle.post.specs.declared.corner.Corners.{Corners}
-use Rattle.post.proofs.Around.{north-west}
+use Rattle.rings.specs.Corners.{bordersOf, cornersOf}
+use Rattle.rings.specs.declared.border.Borders.{Borders}
+use Rattle.rings.specs.declared.corner.Corners.{Corners}
+use Rattle.rings.proofs.Around.{north-west}
 use Rattle.keys.specs.Keys.{cells}
 use Rattle.next.specs.Scan.{step, scan, turn, cornersLower}
 use Rattle.next.proofs.Onward.{onward, onward-strict, onward-own}

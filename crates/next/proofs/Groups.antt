@@ -12,8 +12,8 @@ use borrow.Author.Tests.{ltb-true, ltb-false, lt-ltb, le-ltb}
 use Rattle.surface.specs.Edges.{lowerOf, Place, place}
 use Rattle.surface.proofs.General.Bools.{either}
 use Rattle.surface.proofs.General.Order.{StrictTotal}
-use Rattle.post.specs.declared.border.Borders.{Borders}
-use Rattle.post.specs.declared.corner.Corners.{Corners}
+use Rattle.rings.specs.declared.border.Borders.{Borders}
+use Rattle.rings.specs.declared.corner.Corners.{Corners}
 use Rattle.next.specs.Scan.{step, scan, turn, cornersLower}
 use Rattle.keys.specs.Keys.{cells}
 use Rattle.next.proofs.Scanned.{to-front, scan-joins}

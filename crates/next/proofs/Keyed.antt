@@ -22,10 +22,10 @@ use Rattle.surface.proofs.OfPlots.HeightOrder.{below-lex}
 use Rattle.surface.proofs.OfPlots.Steepest.{length-some}
 use Rattle.order.specs.Ties.{Near, tiePlace}
 use Rattle.order.proofs.Places.{number-tells, place-small, place-driven}
-use Rattle.post.specs.declared.border.Borders.{Borders}
-use Rattle.post.specs.declared.corner.Corners.{Corners}
-use Rattle.post.specs.Corners.{bordersOf}
-use Rattle.post.proofs.Around.{both-false}
+use Rattle.rings.specs.declared.border.Borders.{Borders}
+use Rattle.rings.specs.declared.corner.Corners.{Corners}
+use Rattle.rings.specs.Corners.{bordersOf}
+use Rattle.rings.proofs.Around.{both-false}
 use Rattle.keys.specs.declared.Block.{Block}
 use Rattle.next.specs.Scan.{scan, turn, cornersLower}
 use Rattle.keys.specs.Keys.{There, inside, cells, keyOf, isKey, numberIn, blockOf}

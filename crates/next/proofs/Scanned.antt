@@ -22,7 +22,7 @@ use Rattle.surface.proofs.AnyOrder.Order.{directed-strict}
 use Rattle.surface.proofs.AnyOrder.Walks.{filter-member}
 use Rattle.surface.proofs.OfPlots.HeightOrder.{below-strict, not-below-pit}
 use Rattle.surface.proofs.OfPlots.Steepest.{no-pit}
-use Rattle.post.specs.Corners.{bordersOf, cornersOf}
+use Rattle.rings.specs.Corners.{bordersOf, cornersOf}
 use Rattle.next.specs.Scan.{step, scan, turn}
 use Rattle.next.proofs.Onward.{onward, onward-before, onward-strict, onward-own, never-onward}
 

@@ -3,8 +3,8 @@ use Prim.Native.Nat.{ℕ, _+_, _-_}
 use mathlib.Core.Bool.{Bool, cond, not, _&&_}
 use mathlib.Core.List.{List, [], _∷_}
 use Rattle.surface.specs.Edges.{lowerOf, Place, place}
-use Rattle.post.specs.declared.border.Borders.{Borders}
-use Rattle.post.specs.declared.corner.Corners.{Corners}
+use Rattle.rings.specs.declared.border.Borders.{Borders}
+use Rattle.rings.specs.declared.corner.Corners.{Corners}
 
 module _ (lower : ℕ → ℕ → Bool) where
   -- the lower of what was found so far and the neighbour at a place

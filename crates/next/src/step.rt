@@ -6,8 +6,8 @@
 // the highest posts, up and down change places.
 use keys::post_of;
 use order::is_odd_row;
-use post::border::borders_of;
-use post::border::is_border;
+use rings::border::borders_of;
+use rings::border::is_border;
 use steepest::steepest_inside;
 use steepest::steepest_up;
 use surface::Grid;

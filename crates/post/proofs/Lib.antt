@@ -1,5 +1,2 @@
--- The neighbours of a post, its mark and its ring, as the code works them out.
-pub mod Around
+-- The pairs of a pattern, as the code works them out.
 mod Paired
-pub mod Rings
-pub mod Rows

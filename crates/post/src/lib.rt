@@ -1,7 +1,3 @@
-// One post at a time: where it stands, its ring and its mark.
-pub mod border;
-mod cell;
-mod corner;
+// One post at a time: its pattern and its mark.
 pub mod mark;
 pub mod pattern;
-pub mod ring;

@@ -1,11 +1,11 @@
 // The pattern of a post: the eight signs of its ring, from north round, as the digits of a number, 1 where the member is below the post. An absent place
 // carries the sign of the last member before it. The diagonals need not be known: comparisons of the posts tell the sign at a corner.
-use crate::border::Borders;
-use crate::border::borders_of;
 use order::NORTH;
 use order::SOUTH;
 use order::is_below_by;
 use order::is_odd_row;
+use rings::border::Borders;
+use rings::border::borders_of;
 use surface::Grid;
 ghost use mathlib.Core.Path.{_≡_};
 ghost use mathlib.Core.Bool.{true, cond};
@@ -14,7 +14,7 @@ ghost use Rattle.surface.specs.Lists.{one};
 ghost use Rattle.surface.specs.Plot.{plotOf, posts, row, isOdd, drivenBefore, below, Valid, PostOf};
 ghost use Rattle.surface.specs.Flags.{signBy, pairBy, eastPair, southPair, northPair, westSign, westPair};
 ghost use Rattle.surface.specs.Patterns.{patternAt};
-ghost use Rattle.post.specs.Corners.{bordersOf};
+ghost use Rattle.rings.specs.Corners.{bordersOf};
 
 // The sign at a corner, joined to the post or not, by that of the side before it, by whether the corner is below the post, and by whether it is below the
 // side after it. As numbers, of which the compiler works on many at a time.

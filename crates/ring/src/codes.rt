@@ -1,8 +1,8 @@
 // How each member of a ring stands to its post.
 use order::is_below;
 use order::is_tied;
-use post::ring::Ring;
-use post::ring::ring_at;
+use rings::ring::Ring;
+use rings::ring::ring_at;
 use surface::Grid;
 use surface::RING_LENGTH;
 ghost use mathlib.Core.Path.{_≡_};
@@ -10,7 +10,7 @@ ghost use lib.ListN.{length, getD};
 ghost use Rattle.surface.specs.Plot.{plotOf, posts, Vertex, PostOf};
 ghost use Rattle.surface.specs.Edges.{ringOf};
 ghost use Rattle.surface.specs.Codes.{codeFor, memberCode, codesOf, ringLength, ringBytes};
-ghost use Rattle.post.specs.Rings.{Holds};
+ghost use Rattle.rings.specs.Rings.{Holds};
 
 // A code: 1 above, 3 below, and one more where heights are equal.
 fn code_by(below: bool, tied: bool) -> u8

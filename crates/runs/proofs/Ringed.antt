@@ -20,9 +20,9 @@ use Rattle.surface.proofs.AnyOrder.RunMembers.{runs-run}
 use Rattle.surface.proofs.AnyOrder.Signs.{any-above}
 use Rattle.surface.proofs.AnyOrder.Walks.{Falling}
 use Rattle.surface.proofs.OfPlots.HeightOrder.{below-strict}
-use Rattle.post.specs.declared.ring.Ring.{Ring}
-use Rattle.post.specs.Rings.{held}
-use Rattle.post.proofs.Rings.{held-vertex}
+use Rattle.rings.specs.declared.ring.Ring.{Ring}
+use Rattle.rings.specs.Rings.{held}
+use Rattle.rings.proofs.Rings.{held-vertex}
 use Rattle.runs.specs.Runs.{Saddle, StartsAt, pickFrom, Starts}
 use Rattle.runs.proofs.Running.{getD-front, getD-back}
 

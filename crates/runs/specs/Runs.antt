@@ -12,8 +12,8 @@ use Rattle.surface.specs.Marks.{isSaddle, markAt}
 use Rattle.surface.specs.Lines.{Descent, runsOf, lineStart}
 use Rattle.surface.specs.Spacings.{Spaced}
 use Rattle.surface.specs.declared.Spacings.{Spacings}
-use Rattle.post.specs.declared.ring.Ring.{Ring}
-use Rattle.post.specs.Rings.{held, Holds}
+use Rattle.rings.specs.declared.ring.Ring.{Ring}
+use Rattle.rings.specs.Rings.{held, Holds}
 use Rattle.runs.specs.declared.Start.{Start}
 
 -- p is a saddle, and this is its ring

@@ -2,7 +2,7 @@
 mod slope;
 
 use order::is_lower;
-use post::ring::Ring;
+use rings::ring::Ring;
 use slope::first_of;
 use surface::Grid;
 use surface::Spacings;
@@ -13,7 +13,7 @@ ghost use lib.ListN.{length, getD};
 ghost use Rattle.surface.specs.Plot.{plotOf, below, directed};
 ghost use Rattle.surface.specs.Spacings.{Spaced};
 ghost use Rattle.surface.specs.Lines.{toward};
-ghost use Rattle.post.specs.Rings.{held};
+ghost use Rattle.rings.specs.Rings.{held};
 ghost use Rattle.runs.specs.Runs.{Saddle, InRun, StartsAt, pickFrom, Starts};
 
 // Where the line of a saddle and a run goes to from the saddle; not found where the saddle has no such run.

@@ -3,7 +3,7 @@
 use keys::Block;
 use keys::block_at;
 use keys::block_inside;
-use post::border::Borders;
+use rings::border::Borders;
 use surface::DOWN;
 use surface::Grid;
 use surface::Spacings;
@@ -18,7 +18,7 @@ ghost use Rattle.surface.specs.Plot.{plotOf, row, isOdd, PostOf};
 ghost use Rattle.surface.specs.Edges.{isBorder};
 ghost use Rattle.surface.specs.Lines.{squared};
 ghost use Rattle.surface.specs.Spacings.{Spaced};
-ghost use Rattle.post.specs.Corners.{bordersOf};
+ghost use Rattle.rings.specs.Corners.{bordersOf};
 ghost use Rattle.keys.specs.Keys.{keyOf, inside, blockOf, heightIn};
 ghost use Rattle.steepest.specs.Slopes.{farther, fartherOf, farthest, cornersKept, dropIn, overtakes, steepestIn, reduced, steepestOf};
 

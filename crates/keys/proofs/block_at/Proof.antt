@@ -5,7 +5,7 @@ use mir.Syntax.{w32}
 use mir.Val.{toZ, ofZ}
 use Rattle.surface.specs.Plot.{plotOf}
 use Rattle.surface.specs.Edges.{top, bottom, left, right}
-use Rattle.post.proofs.Around.{both-false}
+use Rattle.rings.proofs.Around.{both-false}
 use Rattle.keys.specs.Keys.{keyOf}
 use Rattle.keys.proofs.KeyNumbers.{bits-of, same-block}
 use Rattle.keys.proofs.Nine.{own-there, n-there, ne-there, e-there, se-there, s-there, sw-there, w-there, nw-there, offsets}

@@ -4,7 +4,7 @@ use native.Mathlib.Omega.{arith}
 use native.Mathlib.Nat.{zero-mul, add-mul, one-mul, mul-le-mul-right}
 use mathlib.Core.Path.{_≡_, refl, ap}
 use Rattle.surface.specs.Plot.{plotOf, Sides}
-use Rattle.post.proofs.Rows.{top-border, bottom-border}
+use Rattle.rings.proofs.Rows.{top-border, bottom-border}
 use Rattle.nexts.specs.Filled.{ForNexts, NextsFilled}
 use Rattle.surface.proofs.AnyOrder.Grid.{row-in}
 use Rattle.nexts.proofs.Filled.{filled-none, filled-join, filled-lists, downs-long, ups-long}

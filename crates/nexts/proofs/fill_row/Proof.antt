@@ -4,8 +4,8 @@ use native.Mathlib.Omega.{arith}
 use mathlib.Core.Path.{_≡_, refl, sym, ap}
 use Rattle.surface.specs.Plot.{plotOf, isOdd}
 use Rattle.surface.proofs.AnyOrder.Grid.{row-in, row-is}
-use Rattle.post.specs.Rows.{Between}
-use Rattle.post.proofs.Rows.{between-border, row-between, left-border, right-border}
+use Rattle.rings.specs.Rows.{Between}
+use Rattle.rings.proofs.Rows.{between-border, row-between, left-border, right-border}
 use Rattle.nexts.specs.Filled.{NextsFilled}
 use Rattle.nexts.proofs.Filled.{filled-join, filled-lists, downs-long, ups-long}
 use Rattle.nexts.proofs.fill_row.Statement.{statement}

@@ -3,7 +3,7 @@ use native.Mathlib.Omega.{arith}
 use mathlib.Core.Path.{sym, _∙_}
 use Prim.Native.Nat.{_-_}
 use lib.Seq.{getD-take, length-take-le}
-use Rattle.post.specs.Rings.{held}
+use Rattle.rings.specs.Rings.{held}
 use Rattle.runs.proofs.Running.{getD-front, getD-back}
 use borrow.Author.Needs.{needs}
 use Rattle.runs.proofs.member_at.Statement.{statement}

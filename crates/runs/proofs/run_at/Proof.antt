@@ -8,7 +8,7 @@ use mathlib.Core.List.{_++_}
 use mir.Val.{boolByte}
 use lib.ListN.{length, getD}
 use Rattle.surface.specs.Plot.{plotOf, below, directed}
-use Rattle.post.specs.Rings.{held}
+use Rattle.rings.specs.Rings.{held}
 use Rattle.runs.proofs.Running.{Seek, seek-none, seek-more, seek-found, seek-end, getD-front}
 use Rattle.runs.proofs.Ringed.{long, some, mixed, twice-vertex}
 use borrow.Author.Needs.{needs}

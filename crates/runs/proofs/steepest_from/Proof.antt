@@ -10,7 +10,7 @@ use lib.ListN.{length, getD}
 use Rattle.surface.specs.Plot.{plotOf, posts, Vertex, below, directed}
 use Rattle.surface.specs.Edges.{lowestOr}
 use Rattle.surface.specs.Lines.{toward}
-use Rattle.post.specs.Rings.{held}
+use Rattle.rings.specs.Rings.{held}
 use Rattle.runs.specs.Slopes.{ahead}
 use Rattle.runs.specs.Runs.{runFrom, pickFrom}
 use Rattle.runs.proofs.Running.{while-stop, while-end, getD-front, low-first, low-more, low-none}

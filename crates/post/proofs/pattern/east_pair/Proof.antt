@@ -9,7 +9,7 @@ use Rattle.surface.specs.Edges.{bottom, right}
 use Rattle.surface.specs.Flags.{eastPair}
 use Rattle.surface.proofs.AnyOrder.Grid.{east-post}
 use Rattle.surface.proofs.OfPlots.Driven.{far-told, east-told, south-told}
-use Rattle.post.proofs.Around.{both-false, cell-se}
+use Rattle.rings.proofs.Around.{both-false, cell-se}
 use Rattle.order.proofs.Level.{below-same}
 use Rattle.post.proofs.Paired.{as-told, paired}
 use Rattle.post.proofs.pattern.east_pair.Statement.{statement}

@@ -10,7 +10,7 @@ use Rattle.surface.specs.Edges.{left, right, top}
 use Rattle.surface.specs.Flags.{northPair}
 use Rattle.surface.proofs.AnyOrder.Grid.{top-false, north-right, east-left}
 use Rattle.surface.proofs.OfPlots.Driven.{far-told, corner-told}
-use Rattle.post.proofs.Around.{both-false, cell-ne}
+use Rattle.rings.proofs.Around.{both-false, cell-ne}
 use Rattle.order.proofs.Level.{below-same}
 use Rattle.post.proofs.Paired.{as-told, paired}
 use Rattle.post.proofs.pattern.north_pair.Statement.{statement}

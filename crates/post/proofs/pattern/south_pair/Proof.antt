@@ -8,7 +8,7 @@ use Rattle.surface.specs.Edges.{bottom, left}
 use Rattle.surface.specs.Flags.{southPair}
 use Rattle.surface.proofs.AnyOrder.Grid.{bottom-false, not-left}
 use Rattle.surface.proofs.OfPlots.Driven.{far-told, corner-told}
-use Rattle.post.proofs.Around.{both-false, cell-sw}
+use Rattle.rings.proofs.Around.{both-false, cell-sw}
 use Rattle.order.proofs.Level.{below-same}
 use Rattle.post.proofs.Paired.{as-told, paired}
 use Rattle.post.proofs.pattern.south_pair.Statement.{statement}

@@ -6,7 +6,7 @@ use Rattle.surface.specs.Edges.{left, top}
 use Rattle.surface.specs.Flags.{westPair}
 use Rattle.surface.proofs.General.Bools.{not-not}
 use Rattle.surface.proofs.OfPlots.Driven.{far-told, north-told}
-use Rattle.post.proofs.Around.{both-false, cell-nw}
+use Rattle.rings.proofs.Around.{both-false, cell-nw}
 use Rattle.order.proofs.Level.{below-same}
 use Rattle.post.proofs.Paired.{as-told, corner-paired}
 use Rattle.post.proofs.pattern.west_pair.Statement.{statement}

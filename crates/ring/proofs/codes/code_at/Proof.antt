@@ -10,7 +10,7 @@ use Rattle.surface.specs.Edges.{ringOf}
 use Rattle.surface.specs.Codes.{memberCode, codesOf}
 use Rattle.surface.proofs.General.ListOf.{getD-mapped}
 use Rattle.surface.proofs.OfPlots.Codes.{codes-number}
-use Rattle.post.proofs.Rings.{held-vertex}
+use Rattle.rings.proofs.Rings.{held-vertex}
 use Rattle.ring.proofs.codes.code_at.Statement.{statement}
 use Rattle.ring.proofs.codes.code_at.Tie as tie
 
