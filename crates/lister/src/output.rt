@@ -1,7 +1,7 @@
 // Printing a listing. Each function says whether all of it was written.
 use libc::STDOUT_FILENO;
-use listing::first::put_first;
-use listing::posts::put_posts;
+use listing::put_first;
+use saddle_lines::put_posts;
 use surface::Grid;
 use surface::MAX_POSTS;
 use surface::Spacings;
@@ -9,8 +9,8 @@ use survey_file::posts_in;
 ghost use Prim.Native.Nat.{_≤_};
 ghost use lib.ListN.{length};
 ghost use Rattle.surface.specs.Plot.{plotOf};
+ghost use Rattle.saddle_lines.specs.Lines.{postRoom, Known};
 ghost use Rattle.listing.specs.First.{Lent};
-ghost use Rattle.listing.specs.Lines.{postRoom, Known};
 
 // Room for the lines of many posts, so that few calls write them.
 const OUTPUT_ROOM: usize = 65536;

@@ -1,4 +1,2 @@
--- The lines of a saddle, those of one post after the other, and the line before them.
-mod Saddles
-mod Chunks
+-- The line before those of the posts.
 mod Starting

@@ -25,11 +25,11 @@ use Rattle.surface.proofs.OfCalls.FileCalls.{rowsIn, columnsIn, postsIn, read-v
 use Rattle.surface.proofs.OfCalls.RoundTrip.{read-fresh, read-plot, read-spaced}
 use Rattle.survey_file.specs.Layout.{plotPosts}
 use Rattle.text.specs.Wrote.{lineRoom, Wrote}
-use Rattle.listing.specs.Lines.{linesFrom, Known}
+use Rattle.saddle_lines.specs.Lines.{linesFrom, Known}
 use Rattle.listing.specs.First.{Lent, Refuses, Begins}
-use Rattle.listing.specs.declared.first.Begun.{Begun}
+use Rattle.listing.specs.declared.Begun.{Begun}
 use Rattle.text.proofs.Writing.{front}
-use Rattle.listing.proofs.Chunks.{from-zero}
+use Rattle.saddle_lines.proofs.Chunks.{from-zero}
 
 -- the list that the definition of a listing lends
 abbrev fresh : List ℕ → List ℤ

@@ -6,8 +6,8 @@ use lib.IntN.{ℤ}
 use lib.ListN.{length, take}
 use Rattle.surface.specs.Plot.{plotOf, posts}
 use Rattle.survey_file.specs.Layout.{plotPosts}
-use Rattle.listing.specs.Lines.{linesFrom, Known}
-use Rattle.listing.specs.declared.first.Begun.{Begun}
+use Rattle.saddle_lines.specs.Lines.{linesFrom, Known}
+use Rattle.listing.specs.declared.Begun.{Begun}
 
 -- lists lent for a file, as long as its plot has posts
 pub record Lent (file : List ℕ) (heights : List ℤ) (marks dales hills : List ℕ) : Type 0 where

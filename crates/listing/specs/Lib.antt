@@ -1,3 +1,2 @@
--- The lines of saddles, and the start of a listing.
-pub mod Lines
+-- The start of a listing.
 pub mod First

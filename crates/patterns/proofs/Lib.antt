@@ -1,5 +1,2 @@
--- What rows of flags tell of the posts.
+-- From the head of a row to that of the next.
 mod Steps
-mod Told
-mod Top
-mod Turned

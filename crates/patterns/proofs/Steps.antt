@@ -14,9 +14,9 @@ use Rattle.surface.proofs.OfPlots.Patterns.{pattern-flags}
 use Rattle.flags.specs.Rows.{RowOf, Side, South}
 use Rattle.halves.specs.Halves.{upperIn, patternIn}
 use Rattle.halves.proofs.Halves.{halves-low}
-use Rattle.patterns.specs.Heads.{Head}
-use Rattle.patterns.proofs.Told.{lower-told}
-use Rattle.patterns.proofs.Turned.{upper-told}
+use Rattle.heads.specs.Heads.{Head}
+use Rattle.heads.proofs.Told.{lower-told}
+use Rattle.heads.proofs.Turned.{upper-told}
 
 -- where the patterns stand at the head of row r: the rows before it are done
 pub record State (pl : Plot) (patterns₀ patterns : List ℕ) (side south fall rise under : List Bool) (upper pattern : List ℕ) (width r : ℕ) : Type 0 where

@@ -1,10 +1,7 @@
 // The patterns of a whole plot, a row at a time, by rows of comparisons of the posts that touch.
 use flags::south_rows;
 use halves::pattern_row;
-use halves::upper_row;
-use order::SOUTH;
-use order::east_row;
-use order::is_below_by;
+use heads::top_row;
 use surface::Grid;
 ghost use mathlib.Core.Path.{_≡_};
 ghost use Prim.Native.Nat.{_+_, _-_, _≤_};
@@ -12,7 +9,6 @@ ghost use lib.ListN.{length, getD};
 ghost use Rattle.surface.specs.Lists.{listOf, stores};
 ghost use Rattle.surface.specs.Plot.{plotOf, posts, Valid};
 ghost use Rattle.surface.specs.Patterns.{patternAt};
-ghost use Rattle.patterns.specs.Heads.{Head, ForTop};
 
 // A row is worked on in whole blocks of 16 posts, the last one filled up, so that no post is left over from the vector code; two flags more than that.
 const WIDTH: usize = 128;
@@ -29,34 +25,6 @@ fn copy_row(from: &[u8], n: usize, patterns: &mut [u8], at: usize)
         patterns[at + c] = from[c];
         c += 1;
     }
-}
-
-// The flags and the upper halves at the top row, above which is the virtual pit; the first post of all has no member at W and carries the sign of S there.
-// The flags come as they are above the plot, and go as they are at the head of a row; those left in `under` are then the row's own.
-fn top_row(
-    heights: &[i32],
-    grid: Grid,
-    side: &[bool],
-    south: &mut [bool],
-    fall: &mut [bool],
-    rise: &mut [bool],
-    under: &mut [bool],
-    upper: &mut [u8],
-    width: usize,
-)
-    requires { ⌜ ForTop (plotOf grid (now heights)) width (now side) (now south) (now fall) (now rise) (now under) (now upper) ⌝ }
-    ensures { λ _. ⌜ Head (plotOf grid (now (heights .entry))) 0 width
-        (now (under .exit)) (now (south .exit)) (now (fall .exit)) (now (rise .exit)) (now (under .exit)) (now (upper .exit)) ⌝ }
-{
-    let columns = grid.columns;
-    south[columns + 1] = true;
-    under[columns] = true;
-    under[0] = !is_below_by(heights, grid, columns, 0, SOUTH);
-    east_row(heights, grid, 0, false, under);
-    upper_row(side, south, fall, rise, under, grid.highest, upper, width);
-    under[0] = false;
-    fall[columns] = true;
-    rise[0] = true;
 }
 
 // The patterns of a whole plot.
