@@ -18,7 +18,14 @@ pub mod Census
 pub mod Balance
 pub mod Walks
 pub mod Ways
+pub mod Classes
+pub mod Names
+pub mod Roots
+pub mod Flood
+pub mod Reached
+pub mod Bodies
 pub mod Pieces
 pub mod Agreement
 pub mod Locality
 pub mod Network
+pub mod Joins
