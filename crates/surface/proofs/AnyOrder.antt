@@ -29,3 +29,6 @@ pub mod Agreement
 pub mod Locality
 pub mod Network
 pub mod Joins
+pub mod RunStarts
+pub mod PatternStarts
+pub mod Climbs

@@ -15,9 +15,8 @@ use Rattle.surface.specs.Bodies.{classes}
 use Rattle.surface.proofs.General.Bools.{either, same-test}
 use Rattle.surface.proofs.General.Sum.{sum, sum-ext, sum-add, sum-zero, sum-at}
 use Rattle.surface.proofs.AnyOrder.Walks.{member-any}
-use Rattle.surface.proofs.AnyOrder.Ways.{way-map}
 use Rattle.surface.proofs.AnyOrder.Classes.{any-some, classes-ext}
-use Rattle.surface.proofs.AnyOrder.Names.{Before, Named, merged, way-same, same-way, name-before, named-more}
+use Rattle.surface.proofs.AnyOrder.Names.{Before, Named, merged, way-same, same-way, name-before, named-more, named-none}
 use Rattle.surface.proofs.AnyOrder.Roots.{eqb-sym, roots, roots-one, roots-all, merged-roots}
 
 -- What the count asks for: n posts and the virtual pit, edges, a place for each vertex, of which those below m are taken in, the lower neighbours of each post,
@@ -34,7 +33,7 @@ pub record Sweep (n m : ℕ) (edge : ℕ → ℕ → Type 0) (place : ℕ → �
   pub pitFirst : place virtualPit < m → (v : ℕ) → Vertex n v → place virtualPit ≤ place v
 
 -- a post at place k, or none
-post-at : (n : ℕ) (place : ℕ → ℕ) (k : ℕ) → ((p : ℕ) × ((p < n) × (place p ≡ k))) ⊎ ((p : ℕ) → p < n → place p ≡ k → ⊥)
+pub post-at : (n : ℕ) (place : ℕ → ℕ) (k : ℕ) → ((p : ℕ) × ((p < n) × (place p ≡ k))) ⊎ ((p : ℕ) → p < n → place p ≡ k → ⊥)
 post-at zero place k = inr (λ p h e. absurd (omega arith))
 post-at (suc n) place k = go (ℕ-discrete (place n) k) (post-at n place k)
   where
@@ -134,9 +133,6 @@ module _ {n m : ℕ} {edge : ℕ → ℕ → Type 0} {place : ℕ → ℕ} {lowe
     none-fresh : Fresh (suc k) name
     none-fresh v i l = fresh v i (omega arith)
 
-    more : (v : ℕ) → Before (Vertex n) place k v → Before (Vertex n) place (suc k) v
-    more v i = (i .0, omega (arith, i .1))
-
     -- the virtual pit, which comes first, is the only vertex so far
     pit-took : k < m → place virtualPit ≡ k → Names (suc k) name
     pit-took h e = record { way = λ v i. rw (pit v i) (rw (fresh virtualPit (inr refl) (omega arith)) (here (inr refl, omega arith))); same = λ v w _ i j. ap name (pit v i ∙ sym (pit w j)) }
@@ -146,14 +142,7 @@ module _ {n m : ℕ} {edge : ℕ → ℕ → Type 0} {place : ℕ → ℕ} {lowe
 
     -- nothing at all
     nothing : (place virtualPit ≡ k → ⊥) → Names (suc k) name
-    nothing f = record { way = λ v i. way-map more (d .way v (less v i)); same = λ v w e i j. d .same v w e (less v i) (less w j) }
-      where
-        off : (v : ℕ) → Vertex n v → place v ≡ k → ⊥
-        off v (inl i) e = none v i e
-        off v (inr i) e = f (ap place (sym i) ∙ e)
-
-        less : (v : ℕ) → Before (Vertex n) place (suc k) v → Before (Vertex n) place k v
-        less v i = (i .0, omega (arith, i .1, off v (i .0)))
+    nothing f = named-none d (λ v i e. ⊎-elim (λ (h : v < n). none v h e) (λ (h : v ≡ virtualPit). f (ap place (sym h) ∙ e)) i)
 
   -- what was joined and what is left come to one more than there are posts
   pub record Flooded (k : ℕ) : Type 0 where

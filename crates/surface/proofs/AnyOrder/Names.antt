@@ -85,3 +85,15 @@ module _ {edge : ℕ → ℕ → Type 0} {inside : ℕ → Type 0} {place : ℕ 
               go (inl a) (inr b) = sym (beside v (back v p (rw b at e)) (i .0, a)) ∙ ap (merged name r l) (sym b)
               go (inr a) (inl b) = ap (merged name r l) a ∙ beside w (rw a at e) (j .0, b)
               go (inr a) (inr b) = ap (merged name r l) (a ∙ sym b)
+
+-- where no vertex is at place k, nothing changes
+pub named-none : {edge : ℕ → ℕ → Type 0} {inside : ℕ → Type 0} {place : ℕ → ℕ} {k : ℕ} {name : ℕ → ℕ} → Named edge inside place k name
+    → ((v : ℕ) → inside v → place v ≡ k → ⊥) → Named edge inside place (suc k) name
+named-none {inside = inside} {place = place} {k = k} d off =
+    record { way = λ v i. way-map more (d .way v (less v i)); same = λ v w e i j. d .same v w e (less v i) (less w j) }
+  where
+    more : (v : ℕ) → Before inside place k v → Before inside place (suc k) v
+    more v i = (i .0, omega (arith, i .1))
+
+    less : (v : ℕ) → Before inside place (suc k) v → Before inside place k v
+    less v i = (i .0, omega (arith, i .1, off v (i .0)))
