@@ -1,6 +1,6 @@
 -- A pattern tells where the upper runs of its ring start: a place that carries the sign before it starts none.
 use Prim.Native.Nat.{ℕ, _+_}
-use mathlib.Core.Path.{_≡_, refl, sym, _∙_, ap}
+use mathlib.Core.Path.{_≡_, refl, sym, _∙_, ap, ap₂}
 use mathlib.Core.Bool.{Bool, true, false, cond, not, _&&_, _||_}
 use mathlib.Core.List.{List, [], _∷_, _++_, map}
 use lib.ListN.{length}
@@ -13,27 +13,27 @@ use Rattle.surface.proofs.AnyOrder.Signs.{lastSide-members}
 use Rattle.surface.proofs.AnyOrder.Patterns.{signs-pattern}
 use Rattle.surface.proofs.AnyOrder.RunStarts.{turnsUp, startsOf}
 
--- f tells the members above at the places of a list, which are counted from i on
-abbrev pub Told : (ℕ → ℕ) → (ℕ → Bool) → ℕ → List Place → Type 0
-Told f low i [] = Unit {0}
-Told f low i (y ∷ l) = (y .taken ≡ true → low (y .member) ≡ false → f i ≡ y .member) × Told f low (i + 1) l
+-- f tells by their places, which are counted from i on, what g tells of the members above
+abbrev pub Told : (f g : ℕ → ℕ) → (ℕ → Bool) → ℕ → List Place → Type 0
+Told f g low i [] = Unit {0}
+Told f g low i (y ∷ l) = (y .taken ≡ true → low (y .member) ≡ false → f i ≡ g (y .member)) × Told f g low (i + 1) l
 
-module _ (f : ℕ → ℕ) (low : ℕ → Bool) where
-  turns-members : (i : ℕ) (x : Bool) (l : List Place) → Told f low i l → map f (turnsFrom i x (carried low x l)) ≡ turnsUp low x (members l)
+module _ (f g : ℕ → ℕ) (low : ℕ → Bool) where
+  turns-members : (i : ℕ) (x : Bool) (l : List Place) → Told f g low i l → map f (turnsFrom i x (carried low x l)) ≡ map g (turnsUp low x (members l))
   unfolding turnsFrom carried turnsUp members
   turns-members i x [] t = refl
   turns-members i x (y ∷ l) t =
       go (y .taken) x (y .member) (t .0) (turns-members (i + 1) (cond (y .taken) (low (y .member)) x) l (t .1))
     where
-      kept : (x b : Bool) (q : ℕ) (r : List ℕ) → (b ≡ false → f i ≡ q) → map f (keep (x && not b) i ++ r) ≡ keep (x && not b) q ++ map f r
-      kept true false q r h = ap (λ (y : ℕ). y ∷ map f r) (h refl)
-      kept true true q r h = refl
-      kept false b q r h = refl
+      kept : (x b : Bool) (q : ℕ) (r s : List ℕ) → (b ≡ false → f i ≡ g q) → map f r ≡ map g s → map f (keep (x && not b) i ++ r) ≡ map g (keep (x && not b) q ++ s)
+      kept true false q r s h e = ap₂ _∷_ (h refl) e
+      kept true true q r s h e = e
+      kept false b q r s h e = e
 
-      go : (b x : Bool) (q : ℕ) → (b ≡ true → low q ≡ false → f i ≡ q) → let g = cond b (low q) x in
-          map f (turnsFrom (i + 1) g (carried low g l)) ≡ turnsUp low g (members l)
-          → map f (keep (x && not g) i ++ turnsFrom (i + 1) g (carried low g l)) ≡ turnsUp low x (keep b q ++ members l)
-      go true x q h e = kept x (low q) q _ (h refl) ∙ ap (λ (r : List ℕ). keep (x && not (low q)) q ++ r) e
+      go : (b x : Bool) (q : ℕ) → (b ≡ true → low q ≡ false → f i ≡ g q) → let y = cond b (low q) x in
+          map f (turnsFrom (i + 1) y (carried low y l)) ≡ map g (turnsUp low y (members l))
+          → map f (keep (x && not y) i ++ turnsFrom (i + 1) y (carried low y l)) ≡ map g (turnsUp low x (keep b q ++ members l))
+      go true x q h e = kept x (low q) q _ _ (h refl) e
       go false true q h e = e
       go false false q h e = e
 
@@ -49,8 +49,8 @@ module _ (f : ℕ → ℕ) (low : ℕ → Bool) where
       go false q e = e
 
   -- from a place that is there on
-  carried-starts : (x : Bool) (q : ℕ) (l : List Place) → Told f low 0 (place true q ∷ l) → let s = carried low x (place true q ∷ l) in
-      map f (cond (any (λ x. x) s) (turnsFrom 0 (lastOr true s) s) (0 ∷ [])) ≡ startsOf low (q ∷ members l)
+  carried-starts : (x : Bool) (q : ℕ) (l : List Place) → Told f g low 0 (place true q ∷ l) → let s = carried low x (place true q ∷ l) in
+      map f (cond (any (λ x. x) s) (turnsFrom 0 (lastOr true s) s) (0 ∷ [])) ≡ map g (startsOf low (q ∷ members l))
   unfolding startsOf carried lastOr any
   carried-starts x q l t =
       let some : low q || any (λ x. x) (carried low (low q) l) ≡ low q || any low (members l) = either (low q) (λ h. rw h) (λ h. rw h (any-carried l)) in
@@ -61,15 +61,15 @@ module _ (f : ℕ → ℕ) (low : ℕ → Bool) where
       (λ h. rw h (turning (low (lastOr q (members l)))))
       (λ h. rw h (ap (λ (y : ℕ). y ∷ []) (t .0 refl (or-left (low q) _ h)))))
     where
-      turning : (b : Bool) → map f (turnsFrom 0 b (low q ∷ carried low (low q) l)) ≡ turnsUp low b (q ∷ members l)
+      turning : (b : Bool) → map f (turnsFrom 0 b (low q ∷ carried low (low q) l)) ≡ map g (turnsUp low b (q ∷ members l))
       turning b = unfold members in turns-members 0 b (place true q ∷ l) t
 
--- the starts are those of the ring, told by f of their places
-pub pattern-starts : (rows columns : ℕ) (falls : ℕ → Bool) (f : ℕ → ℕ) (low : ℕ → Bool) (p : ℕ) → Told f low 0 (places rows columns falls p)
-    → map f (upperStarts (patternOf (carried low true (places rows columns falls p)))) ≡ startsOf low (ring rows columns falls p)
+-- what f tells of the starts by their places, g tells of the ring's starts
+pub pattern-starts : (rows columns : ℕ) (falls : ℕ → Bool) (f g : ℕ → ℕ) (low : ℕ → Bool) (p : ℕ) → Told f g low 0 (places rows columns falls p)
+    → map f (upperStarts (patternOf (carried low true (places rows columns falls p)))) ≡ map g (startsOf low (ring rows columns falls p))
 unfolding upperStarts ring places members
-pattern-starts rows columns falls f low p t =
-    rw (signs-pattern (carried low true (places rows columns falls p)) 8 eight) (carried-starts f low true _ _ t)
+pattern-starts rows columns falls f g low p t =
+    rw (signs-pattern (carried low true (places rows columns falls p)) 8 eight) (carried-starts f g low true _ _ t)
   where
     eight : length (carried low true (places rows columns falls p)) ≡ 8
     eight = unfold carried places in refl
