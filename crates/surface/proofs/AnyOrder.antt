@@ -3,6 +3,8 @@ pub mod Grid
 pub mod Cells
 pub mod RingPlaces
 pub mod RingEdges
+pub mod RingLegs
+pub mod RingTouch
 pub mod Offsets
 pub mod RingOnce
 pub mod Order
