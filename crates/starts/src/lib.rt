@@ -1,6 +1,11 @@
-// Where the upper runs of a ring start, by a table.
+// Where the upper runs of a ring start, by a table, and the list in which every post leads to the first of its own.
 ghost use mathlib.Core.Path.{_≡_};
-ghost use Rattle.surface.specs.Patterns.{startTable};
+ghost use Prim.Native.Nat.{ℕ, _+_, _≤_, _<_};
+ghost use lib.ListN.{length, getD};
+ghost use Rattle.surface.specs.Lists.{listOf};
+ghost use Rattle.surface.specs.Plot.{maxSide, maxPosts};
+ghost use Rattle.surface.specs.Patterns.{upperStarts, startTable};
+ghost use Rattle.starts.specs.Starts.{strides, strideTo, postAt, firstStart};
 
 // For each pattern four bytes: the places at which its upper runs start, in order, and 8 where there is no more. Four patterns in a row. A place counts where
 // its sign is false and the one before it, taken as a circle, is true; in the first pattern, where all are false, the one run starts at the first place.
@@ -75,4 +80,45 @@ pub fn start_table() -> [u8; 1024]
     ensures { λ r. ⌜ r ≡ startTable ⌝ }
 {
     STARTS
+}
+
+// The place where upper run j of a pattern starts, 8 where there is none.
+pub fn start_of(table: &[u8], pattern: u8, j: usize) -> usize
+    requires { ⌜ (now table ≡ startTable) × (j < 4) ⌝ }
+    ensures { λ r. ⌜ (r ≡ getD (upperStarts pattern) j 8) × (r ≤ 8) ⌝ }
+{
+    table[4 * pattern as usize + j] as usize
+}
+
+// How far beyond its north west neighbour the neighbours of a post stand, and the post itself.
+pub fn step_list(columns: usize) -> [u16; 9]
+    requires { ⌜ columns ≤ maxSide ⌝ }
+    ensures { λ r. ⌜ r ≡ strides columns ⌝ }
+{
+    let c = columns as u16;
+    [1, 2, c + 2, 2 * c + 2, 2 * c + 1, 2 * c, c, 0, c + 1]
+}
+
+// The post at a place round p; place 8 is p.
+pub fn post_at(steps: &[u16], columns: usize, p: usize, place: usize) -> usize
+    requires { ⌜ (now steps ≡ strides columns) × (columns ≤ maxSide) × (p < maxPosts) × (place ≤ 8) × (columns + 1 ≤ p + strideTo columns place) ⌝ }
+    ensures { λ r. ⌜ (r ≡ postAt columns p place) × (r < 65536) ⌝ }
+{
+    p + steps[place] as usize - (columns + 1)
+}
+
+// Makes each post's entry the post where its first upper run starts, or the post itself where it has none.
+pub fn fill_leads(columns: usize, patterns: &[u8], table: &[u8], leads: &mut [u16])
+    requires { ⌜ (columns ≤ maxSide) × (now table ≡ startTable) × (length (now leads) ≡ length (now patterns)) × (length (now patterns) ≤ maxPosts) ⌝ }
+    requires { ⌜ ((p : ℕ) → p < length (now patterns) → columns + 1 ≤ p + strideTo columns (firstStart (getD (now patterns) p 0))) ⌝ }
+    ensures { λ _. ⌜ now (leads .exit) ≡ listOf (λ p. postAt columns p (firstStart (getD (now (patterns .entry)) p 0))) (length (now (patterns .entry))) ⌝ }
+{
+    let steps = step_list(columns);
+    let n = patterns.len();
+    let mut p = 0;
+    while p < n {
+        let place = start_of(table, patterns[p], 0);
+        leads[p] = post_at(&steps, columns, p, place) as u16;
+        p += 1;
+    }
 }

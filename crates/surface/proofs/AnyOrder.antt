@@ -34,3 +34,4 @@ pub mod Joins
 pub mod RunStarts
 pub mod PatternStarts
 pub mod Climbs
+pub mod UpperStarts

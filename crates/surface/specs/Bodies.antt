@@ -1,11 +1,12 @@
 -- docs/SPECIFICATION.md, "Joins and splits": which bodies of the ground below a post its lower neighbours lie in, and of that above it its upper ones.
 -- Everything is over any order and any neighbours; those of a plot are `joinsAt` and `splitsAt`.
 use Prim.Native.Nat.{ℕ, zero, suc, _+_, _-_, _*_}
-use mathlib.Core.Bool.{Bool, cond, not, _&&_, _||_}
+use mathlib.Core.Path.{_≡_}
+use mathlib.Core.Bool.{Bool, true, cond, not, _&&_, _||_}
 use mathlib.Core.List.{List, [], _∷_}
 use lib.Dec.{eqb}
 use Rattle.surface.specs.Lists.{listOf, filter, any, one}
-use Rattle.surface.specs.Plot.{Plot, posts, virtualPit, below, reversed}
+use Rattle.surface.specs.Plot.{Plot, posts, virtualPit, Vertex, below, reversed}
 use Rattle.surface.specs.Edges.{isBorder, ring, fallsIn}
 
 -- the vertices that ways from q through members reach in k steps or fewer
@@ -18,6 +19,10 @@ module _ (member : ℕ → Bool) (around : ℕ → List ℕ) (q : ℕ) where
 -- virtual pit
 unfoldable pub inOneBody : (ℕ → ℕ → Bool) → (ℕ → List ℕ) → ℕ → ℕ → ℕ → ℕ → Bool
 inOneBody lower around n p q = reached (λ v. lower v p) around q (suc n)
+
+-- what is below p
+abbrev pub BelowOf : (ℕ → ℕ → Bool) → ℕ → ℕ → ℕ → Type 0
+BelowOf lower n p v = Vertex n v × (lower v p ≡ true)
 
 -- how many classes the members of a list lie in; `same` tells whether two are of one class, of which the last member in the list counts
 unfoldable pub classes : (ℕ → ℕ → Bool) → List ℕ → ℕ

@@ -8,13 +8,9 @@ use mathlib.Core.List.{List, [], _∷_, _++_, List·Memᴰ, List·Memᴰ·head, 
 use Rattle.surface.specs.Lists.{keep, any, lastOr}
 use Rattle.surface.specs.Ways.{Way, here, step}
 use Rattle.surface.proofs.General.Bools.{either, or-left, or-right, and-right}
+use Rattle.surface.proofs.AnyOrder.RingTouch.{Chain}
 use Rattle.surface.proofs.AnyOrder.Ways.{way-join}
 use Rattle.surface.proofs.AnyOrder.Agreement.{last-member}
-
--- each element of a list is related to the one before it, y before the first
-abbrev pub Chain : (ℕ → ℕ → Type 0) → ℕ → List ℕ → Type 0
-Chain R y [] = Unit {0}
-Chain R y (x ∷ l) = R y x × Chain R x l
 
 -- the members of a list at which it turns from below to above; `before` tells of what stands before it
 unfoldable pub turnsUp : (ℕ → Bool) → Bool → List ℕ → List ℕ
