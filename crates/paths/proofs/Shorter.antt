@@ -82,7 +82,7 @@ module _ {l : List ℕ} (ends : PathsEnd l) where
   past-end : (k p : ℕ) → along l (length l + k) p ≡ pathEnd l p
   past-end k p = sym (along-add l (length l) k p) ∙ along-stays l k (pathEnd l p) (ends .stays p)
 
-  same-end : (k p : ℕ) → pathEnd l (along l k p) ≡ pathEnd l p
+  pub same-end : (k p : ℕ) → pathEnd l (along l k p) ≡ pathEnd l p
   same-end k p = let e : k + length l ≡ length l + k = omega arith in along-add l k (length l) p ∙ rw e (past-end k p)
 
   -- where a further step does not move, the steps have led to the end
@@ -100,7 +100,7 @@ module _ {l : List ℕ} (ends : PathsEnd l) where
         let e : suc (a .0) + (m + b .0) ≡ suc m + (a .0 + b .0) = omega arith in
         (a .0 + b .0, b .1 ∙ ap (along l (m + b .0)) (a .1) ∙ along-add l (suc (a .0)) (m + b .0) p ∙ ap (λ (n : ℕ). along l n p) e)
 
-    shorter-end : (p : ℕ) → pathEnd l′ p ≡ pathEnd l p
+    pub shorter-end : (p : ℕ) → pathEnd l′ p ≡ pathEnd l p
     shorter-end p = let b = at-least (length l) p in rw (s .size) (b .1 ∙ past-end (b .0) p)
 
     -- an end's entry is the end, and an entry that is its path's end stays
@@ -108,7 +108,7 @@ module _ {l : List ℕ} (ends : PathsEnd l) where
     unfolding along
     shorter-told p h = let a = s .further p in a .1 ∙ ap (along l (a .0)) h ∙ along-stays l (a .0) (pathEnd l p) (ends .stays p)
 
-    shorter-ends : PathsEnd l′
+    pub shorter-ends : PathsEnd l′
     shorter-ends =
         record {
           stays = λ p. let a = s .further (pathEnd l p) in rw (shorter-end p) (a .1 ∙ along-stays l (suc (a .0)) (pathEnd l p) (ends .stays p));

@@ -61,7 +61,7 @@ fn ahead(list: &[u16], p: usize) -> usize
 }
 
 // Makes the end of its path the entry of p. Mostly two steps lead there, and one test tells: the third does not move.
-fn settle(list: &mut [u16], p: usize)
+pub fn settle(list: &mut [u16], p: usize)
     requires { ⌜ PathsEnd (now list) × (p < length (now list)) ⌝ }
     ensures { λ _. ⌜ Shorter (now (list .entry)) (now (list .exit)) × (follow (now (list .exit)) p ≡ pathEnd (now (list .entry)) p) ⌝ }
 {

@@ -3,7 +3,7 @@ use Prim.Native.Nat.{ℕ, suc, _+_, _-_, _*_, _≤_, _<_}
 use native.Mathlib.Omega.{arith}
 use mathlib.Core.Path.{_≡_, refl, sym, _∙_, ap, ap₂}
 use mathlib.Core.Bool.{Bool, true, false, cond, not, true≢false}
-use mathlib.Core.List.{List, [], _∷_, map}
+use mathlib.Core.List.{List, [], _∷_, map, List·Memᴰ}
 use lib.ListN.{length, getD}
 use lib.Dec.{ltb}
 use borrow.Author.Tests.{not-true, ltb-true, ltb-false}
@@ -11,10 +11,12 @@ use Rattle.surface.specs.Plot.{Plot, posts, virtualPit, Sides, below}
 use Rattle.surface.specs.Edges.{places, fallsIn, top, bottom, left, right}
 use Rattle.surface.specs.Patterns.{patternAt, signsAt, upperStarts}
 use Rattle.surface.proofs.General.Bools.{either, and-left, and-right}
-use Rattle.surface.proofs.General.ListOf.{getD-mapped}
+use Rattle.surface.proofs.General.ListOf.{getD-mapped, getD-member}
 use Rattle.surface.proofs.AnyOrder.Grid.{top-false, not-left, left-south, not-pit}
 use Rattle.surface.proofs.AnyOrder.PatternStarts.{Told, pattern-starts}
-use Rattle.surface.proofs.AnyOrder.UpperStarts.{upperStartsAt}
+use Rattle.surface.proofs.AnyOrder.UpperStarts.{upperStartsAt, upper-starting}
+use Rattle.surface.proofs.AnyOrder.RingEdges.{edge-ends}
+use Rattle.surface.proofs.AnyOrder.Network.{up-post}
 use Rattle.surface.proofs.OfPlots.HeightOrder.{pit-below}
 use Rattle.surface.proofs.OfPlots.Instance.{any-network}
 use Rattle.starts.specs.Starts.{strides, strideTo, postAt, startPosts, firstStart}
@@ -27,7 +29,7 @@ map-id : (f : ℕ → ℕ) → ((x : ℕ) → f x ≡ x) → (l : List ℕ) → 
 map-id f e [] = refl
 map-id f e (x ∷ l) = ap₂ _∷_ (e x) (map-id f e l)
 
-length-map : (f : ℕ → ℕ) (l : List ℕ) → length (map f l) ≡ length l
+pub length-map : (f : ℕ → ℕ) (l : List ℕ) → length (map f l) ≡ length l
 length-map f [] = refl
 length-map f (x ∷ l) = ap suc (length-map f l)
 
@@ -104,3 +106,13 @@ module _ (pl : Plot) (sides : Sides pl.rows pl.columns) (p : ℕ) (h : p < posts
       go : (l : List ℕ) → upperStarts (patternAt pl p) ≡ l → c + 1 ≤ p + strideTo c (firstStart (patternAt pl p))
       go [] e = rw e (omega arith)
       go (x ∷ l) e = start-inside 0 (rw e (omega arith))
+
+  -- and every start is a post
+  pub start-post : (j : ℕ) → j < length (upperStarts (patternAt pl p)) → postAt c p (getD (upperStarts (patternAt pl p)) j 8) < posts pl
+  start-post j k =
+      let l = upperStarts (patternAt pl p) in
+      let net = any-network pl sides in
+      let m : List·Memᴰ (postAt c p (getD l j 8)) (upperStartsAt net p) =
+      rw (← (getD-mapped (postAt c p) l j 8 0 k), ← start-posts) (getD-member (startPosts pl p) j 0 (omega (arith, length-map (postAt c p) l))) in
+      let a = upper-starting net .above p _ h m in
+      up-post net p _ h (edge-ends sides (fallsIn pl) (a .0) .1) (a .1)

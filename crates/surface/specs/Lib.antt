@@ -30,7 +30,7 @@
 pub mod Lists
 pub mod Rounding
 pub mod Words
--- AnyOrder and OfPlots: the ground. (Flags and Patterns serve the code, and no promise of a call cites them; Patterns has the changes of side of "Marks and
+-- AnyOrder and OfPlots: the ground. (Flags, Patterns and Names serve the code, and no promise of a call cites them; Patterns has the changes of side of "Marks and
 -- counts".)
 pub mod Plot
 pub mod Edges
@@ -43,6 +43,7 @@ pub mod Spacings
 pub mod Lines
 pub mod Parts
 pub mod Bodies
+pub mod Names
 pub mod SurveyFile
 -- OfCalls: what calls refuse, answer and leave, and the lister's text.
 pub mod Settings

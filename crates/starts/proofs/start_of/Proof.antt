@@ -17,10 +17,10 @@ entry : (c : tie.After-shared-slice-known) → let a = c .before .args in
 entry c = let a = c .before .args in rw (c .before .pre .0) (table-entry (a .pattern) (a .j) (omega arith) (c .before .pre .1))
 
 cast-result : tie.Need-cast-result
-cast-result c = omega (arith, entry c, starts-small (c .before .args .pattern) (c .before .args .j))
+cast-result c = omega (arith, entry c, starts-small (c .before .args .pattern) (omega arith) (c .before .args .j))
 
 returns : tie.Need-returns
-returns c = (entry c, omega (arith, entry c, starts-small (c .before .args .pattern) (c .before .args .j)))
+returns c = (entry c, omega (arith, entry c, starts-small (c .before .args .pattern) (omega arith) (c .before .args .j)))
 
 pub start-of-spec : {M : Type 1} → statement M
 start-of-spec = tie.close (tie.spec (search needs) (search needs) in-table cast-result returns)

@@ -9,6 +9,7 @@ use lib.ListN.{length}
 use borrow.Author.Tests.{eqb-true, eqb-false, eq-eqb, ne-eqb}
 use Rattle.surface.specs.Lists.{filter, any, one}
 use Rattle.surface.specs.Bodies.{classes}
+use Rattle.surface.specs.Names.{alike}
 use Rattle.surface.proofs.General.Bools.{either, same-test}
 use Rattle.surface.proofs.AnyOrder.Walks.{filter-member, member-filter, filter-some, member-any}
 
@@ -60,9 +61,6 @@ module _ (same : ℕ → ℕ → Bool) where
 
 -- Classes by names.
 module _ (name : ℕ → ℕ) where
-  abbrev pub alike : ℕ → ℕ → Bool
-  alike q x = eqb (name q) (name x)
-
   -- the members of other names than c
   abbrev others : ℕ → List ℕ → List ℕ
   others c = filter (λ q. not (eqb (name q) c))
@@ -77,7 +75,7 @@ module _ (name : ℕ → ℕ) where
       (member-filter _ l (m .0) (m .1 .0) (ap not (ne-eqb (name (m .0)) c (λ k. h (sym (eqb-true (name (m .0)) d (m .1 .1)) ∙ k))))) (m .1 .1))
 
   -- without the members of one name there is a class less
-  classes-others : (c : ℕ) (l : List ℕ) → classes alike (others c l) + one (any (λ q. eqb (name q) c) l) ≡ classes alike l
+  classes-others : (c : ℕ) (l : List ℕ) → classes (alike name) (others c l) + one (any (λ q. eqb (name q) c) l) ≡ classes (alike name) l
   unfolding classes filter any
   classes-others c [] = refl
   classes-others c (x ∷ l) =
@@ -87,16 +85,16 @@ module _ (name : ℕ → ℕ) where
       (λ e. rw (e, any-others c (name x) (eqb-false (name x) c e) l) (omega (arith, ih)))
 
   -- a list has no more classes than one that has all its names
-  pub classes-le : (l m : List ℕ) → ((q : ℕ) → List·Memᴰ q l → any (λ x. eqb (name x) (name q)) m ≡ true) → classes alike l ≤ classes alike m
+  pub classes-le : (l m : List ℕ) → ((q : ℕ) → List·Memᴰ q l → any (λ x. eqb (name x) (name q)) m ≡ true) → classes (alike name) l ≤ classes (alike name) m
   unfolding classes
   classes-le [] m h = omega arith
   classes-le (x ∷ l) m h =
-      either (any (λ q. alike q x) l)
+      either (any (λ q. alike name q x) l)
       (λ e. rw e (omega (arith, classes-le l m (λ q k. h q (List·Memᴰ·tail k)))))
       (λ e.
       let less = classes-others (name x) m in
       let fewer = classes-le l (others (name x) m) (λ q k. any-others (name x) (name q) (new e q k) m ∙ h q (List·Memᴰ·tail k)) in
       rw e (omega (arith, fewer, rw (h x (List·Memᴰ·head refl)) at less)))
     where
-      new : any (λ q. alike q x) l ≡ false → (q : ℕ) → List·Memᴰ q l → name q ≡ name x → ⊥
-      new e q k i = true≢false (sym (member-any (λ q. alike q x) l q k (eq-eqb (name q) (name x) i)) ∙ e)
+      new : any (λ q. alike name q x) l ≡ false → (q : ℕ) → List·Memᴰ q l → name q ≡ name x → ⊥
+      new e q k i = true≢false (sym (member-any (λ q. alike name q x) l q k (eq-eqb (name q) (name x) i)) ∙ e)

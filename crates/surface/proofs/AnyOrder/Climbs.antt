@@ -14,14 +14,15 @@ use Rattle.surface.specs.Plot.{virtualPit, Vertex, reversed}
 use Rattle.surface.specs.Edges.{Edge}
 use Rattle.surface.specs.Ways.{Way, here, step}
 use Rattle.surface.specs.Bodies.{classes, bodiesAt, neighbours}
+use Rattle.surface.specs.Names.{alike, merged}
 use Rattle.surface.proofs.General.Bools.{either}
 use Rattle.surface.proofs.AnyOrder.Order.{rank, rank-falls, reversed-strict}
 use Rattle.surface.proofs.AnyOrder.RingEdges.{edge-sym, edge-ends}
 use Rattle.surface.proofs.AnyOrder.Walks.{filter-member, member-filter, member-any}
 use Rattle.surface.proofs.AnyOrder.Ways.{way-map}
 use Rattle.surface.proofs.AnyOrder.Network.{Network}
-use Rattle.surface.proofs.AnyOrder.Classes.{any-some, alike, classes-ext, classes-length, classes-le}
-use Rattle.surface.proofs.AnyOrder.Names.{Before, Named, merged, way-same, name-before, named-more, named-none}
+use Rattle.surface.proofs.AnyOrder.Classes.{any-some, classes-ext, classes-length, classes-le}
+use Rattle.surface.proofs.AnyOrder.Names.{Before, Named, way-same, name-before, named-more, named-none}
 use Rattle.surface.proofs.AnyOrder.Flood.{post-at, same-named, flood}
 use Rattle.surface.proofs.AnyOrder.Bodies.{rank-once, rank-lower}
 use Rattle.surface.proofs.AnyOrder.Joins.{beside, post-rise, up-sweep}

@@ -12,11 +12,12 @@ use Rattle.surface.specs.Lists.{any, one}
 use Rattle.surface.specs.Plot.{virtualPit, Vertex}
 use Rattle.surface.specs.Ways.{Way, here}
 use Rattle.surface.specs.Bodies.{classes}
+use Rattle.surface.specs.Names.{merged}
 use Rattle.surface.proofs.General.Bools.{either, same-test}
 use Rattle.surface.proofs.General.Sum.{sum, sum-ext, sum-add, sum-zero, sum-at}
 use Rattle.surface.proofs.AnyOrder.Walks.{member-any}
 use Rattle.surface.proofs.AnyOrder.Classes.{any-some, classes-ext}
-use Rattle.surface.proofs.AnyOrder.Names.{Before, Named, merged, way-same, same-way, name-before, named-more, named-none}
+use Rattle.surface.proofs.AnyOrder.Names.{Before, Named, way-same, same-way, name-before, named-more, named-none}
 use Rattle.surface.proofs.AnyOrder.Roots.{eqb-sym, roots, roots-one, roots-all, merged-roots}
 
 -- What the count asks for: n posts and the virtual pit, edges, a place for each vertex, of which those below m are taken in, the lower neighbours of each post,

@@ -9,6 +9,7 @@ use mathlib.Core.List.{List, List·Memᴰ}
 use lib.Dec.{eqb, ltb}
 use borrow.Author.Tests.{eqb-true, ltb-true, ltb-false}
 use Rattle.surface.specs.Lists.{any}
+use Rattle.surface.specs.Names.{merged}
 use Rattle.surface.specs.Ways.{Way, here, step}
 use Rattle.surface.proofs.General.Bools.{either}
 use Rattle.surface.proofs.AnyOrder.Ways.{way-first, way-last, way-join, way-back, way-map}
@@ -21,10 +22,6 @@ Before inside place k v = inside v × (place v < k)
 pub record Named (edge : ℕ → ℕ → Type 0) (inside : ℕ → Type 0) (place : ℕ → ℕ) (k : ℕ) (name : ℕ → ℕ) : Type 0 where
   pub way : (v : ℕ) → Before inside place k v → Way edge (Before inside place k) v (name v)
   pub same : (v w : ℕ) → edge v w → Before inside place k v → Before inside place k w → name v ≡ name w
-
--- names after all bodies with a member in l were given the name r
-unfoldable pub merged : (ℕ → ℕ) → ℕ → List ℕ → ℕ → ℕ
-merged name r l v = cond (any (λ q. eqb (name q) (name v)) l) r (name v)
 
 module _ {edge : ℕ → ℕ → Type 0} {inside : ℕ → Type 0} {place : ℕ → ℕ} {k : ℕ} {name : ℕ → ℕ} (back : (p q : ℕ) → edge p q → edge q p) (d : Named edge inside place k name) where
   -- a way's ends have one name

@@ -11,9 +11,9 @@ use borrow.Author.Tests.{eqb-true, eqb-false, eq-eqb, ne-eqb}
 use Rattle.surface.specs.Lists.{any, one}
 use Rattle.surface.specs.Plot.{virtualPit, Vertex}
 use Rattle.surface.specs.Bodies.{classes}
+use Rattle.surface.specs.Names.{merged}
 use Rattle.surface.proofs.General.Bools.{either, same-test}
 use Rattle.surface.proofs.General.Sum.{sum, sum-ext, sum-add, sum-zero, sum-const, sum-at}
-use Rattle.surface.proofs.AnyOrder.Names.{merged}
 
 pub eqb-sym : (a b : ℕ) → eqb a b ≡ eqb b a
 eqb-sym a b = same-test (eqb a b) (eqb b a) (λ e. eq-eqb b a (sym (eqb-true a b e))) (λ e. eq-eqb a b (sym (eqb-true b a e)))
@@ -21,6 +21,14 @@ eqb-sym a b = same-test (eqb a b) (eqb b a) (λ e. eq-eqb b a (sym (eqb-true a b
 -- how many of n posts and the virtual pit are their own names
 unfoldable pub roots : ℕ → (ℕ → ℕ) → ℕ
 roots n name = sum n (λ v. one (eqb (name v) v)) + one (eqb (name virtualPit) virtualPit)
+
+-- one more body with a name that was met before changes nothing
+pub again : (name : ℕ → ℕ) (r x : ℕ) (l : List ℕ) → any (λ q. eqb (name q) (name x)) l ≡ true → (v : ℕ) → merged name r (x ∷ l) v ≡ merged name r l v
+unfolding merged any
+again name r x l h v =
+    either (eqb (name x) (name v))
+    (λ e. rw e (rw (sym (ap (λ (y : ℕ). any (λ q. eqb (name q) y) l) (eqb-true _ _ e)) ∙ h)))
+    (λ e. rw e)
 
 module _ (n : ℕ) (fits : n ≤ virtualPit) where
   one-vertex : (r : ℕ) → Vertex n r → sum n (λ v. one (eqb v r)) + one (eqb virtualPit r) ≡ 1
@@ -66,14 +74,7 @@ module _ (n : ℕ) (fits : n ≤ virtualPit) where
     abbrev Root : ℕ → Type 0
     Root q = Vertex n (name q) × (name q ≡ p → ⊥) × (name (name q) ≡ name q)
 
-    -- one more body: where it was met before, nothing changes, else its name goes
-    again : (x : ℕ) (l : List ℕ) → any (λ q. eqb (name q) (name x)) l ≡ true → (v : ℕ) → merged name p (x ∷ l) v ≡ merged name p l v
-    unfolding merged any
-    again x l h v =
-        either (eqb (name x) (name v))
-        (λ e. rw e (rw (sym (ap (λ (y : ℕ). any (λ q. eqb (name q) y) l) (eqb-true _ _ e)) ∙ h)))
-        (λ e. rw e)
-
+    -- the name of one more body that was not met goes
     gone : (x : ℕ) (l : List ℕ) → Root x → any (λ q. eqb (name q) (name x)) l ≡ false → (v : ℕ)
         → one (eqb (merged name p l v) v) ≡ one (eqb (merged name p (x ∷ l) v) v) + one (eqb v (name x))
     unfolding merged any
@@ -98,7 +99,7 @@ module _ (n : ℕ) (fits : n ≤ virtualPit) where
     merged-roots (x ∷ l) h =
         let ih = merged-roots l (λ q m. h q (List·Memᴰ·tail m)) in
         either (any (λ q. eqb (name q) (name x)) l)
-        (λ e. rw e (omega (arith, ih, roots-ext (merged name p (x ∷ l)) (merged name p l) (λ v _. again x l e v))))
+        (λ e. rw e (omega (arith, ih, roots-ext (merged name p (x ∷ l)) (merged name p l) (λ v _. again name p x l e v))))
         (λ e.
         let r = h x (List·Memᴰ·head refl) in
         rw e (omega (arith, ih, roots-less (merged name p l) (merged name p (x ∷ l)) (name x) (r .0) (gone x l r e))))

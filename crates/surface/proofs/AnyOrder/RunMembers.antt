@@ -49,7 +49,7 @@ module _ (s : ℕ → Bool) where
       go true e ih (suc j) h = later (ih j (omega arith))
       go false e ih j h = later (ih j h)
 
-  all-member : (l : List ℕ) → all s l ≡ true → (q : ℕ) → List·Memᴰ q l → s q ≡ true
+  pub all-member : (l : List ℕ) → all s l ≡ true → (q : ℕ) → List·Memᴰ q l → s q ≡ true
   unfolding all
   all-member [] h q m = absurd (List·Memᴰ·not-nil m)
   all-member (x ∷ l) h q m =
