@@ -133,7 +133,7 @@ same-length : tie.Need-same-length Inv-loop μ-loop
 same-length c = listed (c .before)
 
 returns : tie.Need-returns Inv-loop μ-loop
-returns c = all (c .before) (omega (arith, starts-few (start (c .before) .args .pattern) (omega arith)))
+returns c = all (c .before) (omega (arith, starts-few (start (c .before) .args .pattern) (omega (arith, start (c .before) .fits .pattern))))
 
 same-length-2 : tie.Need-same-length-2 Inv-loop μ-loop
 same-length-2 c = listed (c .before .before .before)
@@ -145,7 +145,7 @@ returns-2 c =
     all a
     (either (ltb (a .loop .j) (length l))
     (λ e.
-    let k = start-place (start a .args .pattern) (omega arith) (a .loop .j) (ltb-true (a .loop .j) (length l) e) in
+    let k = start-place (start a .args .pattern) (omega (arith, start a .fits .pattern)) (a .loop .j) (ltb-true (a .loop .j) (length l) e) in
     absurd (omega (arith, k, c .before .start-of2 .ensures .0, c .if1 .taken)))
     (λ e. omega (arith, ltb-false (a .loop .j) (length l) e)))
 
