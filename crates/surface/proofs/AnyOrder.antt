@@ -12,10 +12,12 @@ pub mod Lowest
 pub mod CellFlags
 pub mod Runs
 pub mod RunMembers
+pub mod Changes
 pub mod Signs
 pub mod Patterns
 pub mod PatternFlags
-pub mod Turns
+pub mod RingSums
+pub mod Corners
 pub mod Census
 pub mod Balance
 pub mod Walks
