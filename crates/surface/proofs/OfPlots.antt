@@ -4,6 +4,7 @@ pub mod HeightOrder
 pub mod Counted
 pub mod Steepest
 pub mod Instance
+pub mod Joins
 pub mod Patterns
 pub mod Redrawn
 pub mod Codes

@@ -42,6 +42,7 @@ pub mod Codes
 pub mod Spacings
 pub mod Lines
 pub mod Parts
+pub mod Bodies
 pub mod SurveyFile
 -- OfCalls: what calls refuse, answer and leave, and the lister's text.
 pub mod Settings

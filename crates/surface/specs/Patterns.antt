@@ -2,9 +2,10 @@
 -- promises do not speak of these.)
 use Prim.Native.Nat.{ℕ, zero, suc, _+_, _*_, _/_, _%_}
 use mathlib.Core.Bool.{Bool, true, cond, not, _&&_}
-use mathlib.Core.List.{List, [], _∷_}
+use mathlib.Core.List.{List, [], _∷_, _++_}
 use lib.Dec.{eqb}
-use Rattle.surface.specs.Lists.{listOf, lastOr, one}
+use lib.ListN.{getD}
+use Rattle.surface.specs.Lists.{listOf, keep, any, lastOr, one}
 use Rattle.surface.specs.Plot.{Plot, below}
 use Rattle.surface.specs.Edges.{Place, places, fallsIn}
 use Rattle.surface.specs.Flags.{markBy}
@@ -55,3 +56,16 @@ changeTable = listOf changesIn 256
 -- the mark that a pattern tells: half as many lower runs start as there are changes
 unfoldable pub markIn : ℕ → ℕ
 markIn k = markBy (eqb (k % 2) 1) (changesIn k / 2)
+
+-- the places, counted from i on, at which signs turn from true to false; `before` is the sign before them
+unfoldable pub turnsFrom : ℕ → Bool → List Bool → List ℕ
+turnsFrom i before [] = []
+turnsFrom i before (x ∷ l) = keep (before && not x) i ++ turnsFrom (i + 1) x l
+
+-- the places round a post at which its upper runs start, by its pattern; where every sign is false there is one run, which starts at the first place
+unfoldable pub upperStarts : ℕ → List ℕ
+upperStarts k = let l = signsOf 8 k in cond (any (λ x. x) l) (turnsFrom 0 (lastOr true l) l) (0 ∷ [])
+
+-- the table: for each pattern four entries, those places in order, 8 where there is no more
+unfoldable pub startTable : List ℕ
+startTable = listOf (λ i. getD (upperStarts (i / 4)) (i % 4) 8) 1024

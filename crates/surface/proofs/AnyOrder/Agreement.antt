@@ -12,7 +12,7 @@ use Rattle.surface.specs.Marks.{mark}
 abbrev pub Agree : {B : Type 0} → (ℕ → B) → (ℕ → B) → List ℕ → Type 0
 Agree s s′ l = (x : ℕ) → List·Memᴰ x l → s x ≡ s′ x
 
-last-member : (x : ℕ) (l : List ℕ) → List·Memᴰ (lastOr x l) (x ∷ l)
+pub last-member : (x : ℕ) (l : List ℕ) → List·Memᴰ (lastOr x l) (x ∷ l)
 unfolding lastOr
 last-member x [] = List·Memᴰ·head refl
 last-member x (y ∷ l) = List·Memᴰ·tail (last-member y l)

@@ -160,14 +160,14 @@ module _ {rows columns : ℕ} {lower : ℕ → ℕ → Bool} {falls : ℕ → Bo
   border-end p h b =
       sym (end-next falling-down p (inl h)) ∙ ap (end downward n) (border-next p h b) ∙ end-stop falling-down n virtualPit (pit-end downward)
 
-  some-post : 0 < n
+  pub some-post : 0 < n
   some-post = omega (arith, row-fits (net .sides), net .sides .wide)
 
-  corner-border : isBorder rows columns 0 ≡ true
+  pub corner-border : isBorder rows columns 0 ≡ true
   corner-border = rw (top-true (net .sides) 0 .1 (omega (arith, net .sides .wide)))
 
   -- upward a walk never meets the virtual pit
-  not-below-pit : (p : ℕ) → (p ≡ virtualPit → ⊥) → lower p virtualPit ≡ false
+  pub not-below-pit : (p : ℕ) → (p ≡ virtualPit → ⊥) → lower p virtualPit ≡ false
   not-below-pit p h = net .order .other virtualPit p (λ e. h (sym e)) ∙ ap not (net .pitBelow p h)
 
   pub up-post : (p q : ℕ) → p < n → Vertex n q → lower p q ≡ true → q < n
@@ -181,11 +181,11 @@ module _ {rows columns : ℕ} {lower : ℕ → ℕ → Bool} {falls : ℕ → Bo
   above-not-all : (p : ℕ) → p < n → anyAbove p ≡ not (all (λ q. lower q p) (ringAt p))
   above-not-all p h = any-above lower (net .order) p (ringAt p) (λ q m. ring-other (net .sides) falls p q h m)
 
-  mark-pit : (p : ℕ) → p < n → mark lower ringAt p ≡ 2 ↔ anyBelow p ≡ false
+  pub mark-pit : (p : ℕ) → p < n → mark lower ringAt p ≡ 2 ↔ anyBelow p ≡ false
   unfolding mark ring places members
   mark-pit p h = rw (above-not-all p h) (mark-two (λ q. lower q p) _ _)
 
-  mark-peak : (p : ℕ) → p < n → mark lower ringAt p ≡ 1 ↔ anyAbove p ≡ false
+  pub mark-peak : (p : ℕ) → p < n → mark lower ringAt p ≡ 1 ↔ anyAbove p ≡ false
   unfolding mark ring places members
   mark-peak p h =
       let m = above-not-all p h in (

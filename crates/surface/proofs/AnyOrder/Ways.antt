@@ -7,6 +7,10 @@ module _ {edge : ℕ → ℕ → Type 0} {member : ℕ → Type 0} where
   way-first (here m) = m
   way-first (step m e w) = m
 
+  pub way-last : {p q : ℕ} → Way edge member p q → member q
+  way-last (here m) = m
+  way-last (step m e w) = way-last w
+
   pub way-join : {p q r : ℕ} → Way edge member p q → Way edge member q r → Way edge member p r
   way-join (here m) w = w
   way-join (step m e v) w = step m e (way-join v w)

@@ -4,6 +4,9 @@ use native.Mathlib.Omega.{arith}
 use native.Mathlib.Nat.{zero-mul, suc-mul, add-zero, add-suc, mul-add-div-right, mul-add-mod-self-right, div-eq-of-lt, mod-eq-of-lt}
 use native.Mathlib.Decide.{ℕ-discrete}
 use mathlib.Core.Path.{_≡_, refl, sym, _∙_, ap, ap₂}
+use mathlib.Core.Bool.{cond}
+use lib.Dec.{eqb}
+use borrow.Author.Tests.{eq-eqb, ne-eqb}
 
 unfoldable pub sum : ℕ → (ℕ → ℕ) → ℕ
 sum zero f = 0
@@ -42,6 +45,16 @@ pub sum-zero : (n : ℕ) (f : ℕ → ℕ) → ((i : ℕ) → i < n → f i ≡ 
 unfolding sum
 sum-zero zero f h = refl
 sum-zero (suc n) f h = omega (arith, sum-zero n f (λ i k. h i (omega arith)), h n (omega arith))
+
+-- a sum with one term
+pub sum-at : (n r c : ℕ) → r < n → sum n (λ v. cond (eqb v r) c 0) ≡ c
+unfolding sum
+sum-at zero r c h = absurd (omega arith)
+sum-at (suc n) r c h = go (ℕ-discrete n r) (sum-at n r c)
+  where
+    go : Dec (n ≡ r) → (r < n → sum n (λ v. cond (eqb v r) c 0) ≡ c) → sum n (λ v. cond (eqb v r) c 0) + cond (eqb n r) c 0 ≡ c
+    go (yes e) ih = rw (eq-eqb n r e) (omega (arith, sum-zero n (λ v. cond (eqb v r) c 0) (λ v k. rw (ne-eqb v r (omega arith)))))
+    go (no e) ih = rw (ne-eqb n r e) (omega (arith, ih (omega arith)))
 
 -- a sum in two parts
 pub sum-split : (m k : ℕ) (f : ℕ → ℕ) → sum (m + k) f ≡ sum m f + sum k (λ i. f (m + i))

@@ -61,7 +61,10 @@ module _ (pl : Plot) (sides : Sides pl.rows pl.columns) (s : Spacings) where
   unfolding hillsOf hillAt marksOf markAt ringOf
   hills-part = hill-parts network
 
--- marks hang on no spacings: any will do
+-- marks and bodies hang on no spacings: any will do
+pub any-network : (pl : Plot) → Sides pl.rows pl.columns → let s = spacings 1 1 in Network pl.rows pl.columns (below pl) (fallsIn pl) (steepest pl s (below pl)) (steepest pl s (reversed (below pl)))
+any-network pl sides = network pl sides (spacings 1 1)
+
 pub plot-balance : (pl : Plot) → Sides pl.rows pl.columns → peaks (marksOf pl) + pits (marksOf pl) ≡ 2 + saddles (marksOf pl)
 unfolding marksOf markAt ringOf
-plot-balance pl sides = balanced (network pl sides (spacings 1 1))
+plot-balance pl sides = balanced (any-network pl sides)

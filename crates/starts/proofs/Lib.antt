@@ -1,0 +1,3 @@
+-- Entries of the table of starts, and the posts of a plot where runs start.
+pub mod Entries
+pub mod Placed
