@@ -20,6 +20,8 @@ pub mod RingSums
 pub mod Corners
 pub mod Census
 pub mod Balance
+pub mod Triangles
+pub mod Parity
 pub mod Walks
 pub mod Ways
 pub mod Classes

@@ -2,8 +2,10 @@
 use Prim.Native.Nat.{ℕ, _+_, _%_}
 use native.Mathlib.Omega.{arith}
 use mathlib.Core.Path.{_≡_, refl}
+use mathlib.Core.Bool.{_&&_}
 use mathlib.Core.List.{List, [], _∷_, _++_}
-use Rattle.surface.specs.Lists.{lastOr}
+use lib.Dec.{eqb}
+use Rattle.surface.specs.Lists.{lastOr, one}
 
 -- what t counts between each member and the one before it, `prev` standing before the first
 unfoldable pub sumFrom : (ℕ → ℕ → ℕ) → ℕ → List ℕ → ℕ
@@ -14,6 +16,10 @@ sumFrom t prev (x ∷ l) = t prev x + sumFrom t x l
 unfoldable pub round : (ℕ → ℕ → ℕ) → List ℕ → ℕ
 round t [] = 0
 round t (x ∷ l) = sumFrom t (lastOr x l) (x ∷ l)
+
+-- whether two colours are a and b, in either order
+abbrev pub meet : ℕ → ℕ → ℕ → ℕ → ℕ
+meet a b x y = one (eqb x a && eqb y b) + one (eqb y a && eqb x b)
 
 module _ (t : ℕ → ℕ → ℕ) where
   sumFrom-last : (prev : ℕ) (l : List ℕ) (x : ℕ) → sumFrom t prev (l ++ x ∷ []) ≡ t (lastOr prev l) x + sumFrom t prev l
