@@ -25,6 +25,7 @@ pub mod Parity
 pub mod Walks
 pub mod Ways
 pub mod Classes
+pub mod ClosedWalks
 pub mod Names
 pub mod Roots
 pub mod Flood
