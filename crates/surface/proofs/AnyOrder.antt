@@ -36,6 +36,8 @@ pub mod Agreement
 pub mod Locality
 pub mod Network
 pub mod Joins
+pub mod Colours
+pub mod JoinsSplits
 pub mod RunStarts
 pub mod PatternStarts
 pub mod Climbs

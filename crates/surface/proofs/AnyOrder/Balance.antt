@@ -66,7 +66,7 @@ module _ (lower : ℕ → ℕ → Bool) (o : StrictTotal lower) {rows columns : 
         go true = refl
         go false = refl
 
-    changes-sum : sum n (λ p. changes (λ q. lower q p) (ring rows columns falls p)) + 2 ≡ 2 * n
+    pub changes-sum : sum n (λ p. changes (λ q. lower q p) (ring rows columns falls p)) + 2 ≡ 2 * n
     changes-sum =
         omega (
           arith,
@@ -111,7 +111,7 @@ module _ (lower : ℕ → ℕ → Bool) (o : StrictTotal lower) (rows columns : 
     abbrev theMark : ℕ → ℕ
     theMark = mark lower (ring rows columns falls)
 
-    index : (p : ℕ) → p < rows * columns
+    pub index : (p : ℕ) → p < rows * columns
         → one (eqb (theMark p) 1) + one (eqb (theMark p) 2) + changes (λ q. lower q p) (ring rows columns falls p) / 2 ≡ 1 + multiplicity (theMark p)
     index p h = rw (mark-changes lower o rows columns falls p (λ q. others p q h)) (mark-index _ _)
 

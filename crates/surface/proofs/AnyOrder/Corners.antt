@@ -6,6 +6,7 @@ use mathlib.Core.Path.{_≡_, refl, sym, _∙_}
 use mathlib.Core.Bool.{Bool, true, false, cond, not, _&&_, _||_, and-true, and-false}
 use Rattle.surface.specs.Plot.{virtualPit, Sides}
 use Rattle.surface.specs.Edges.{top, bottom, left, right, isCell, ring}
+use Rattle.surface.proofs.General.Bools.{either}
 use Rattle.surface.proofs.General.Sum.{sum, sum-ext, sum-shift, sum-eight}
 use Rattle.surface.proofs.General.Circles.{round}
 use Rattle.surface.proofs.AnyOrder.Grid.{top-true, top-false, bottom-true, bottom-false, south-top, south-left, south-right, east-top, east-bottom, row-fits, left-zero, right-end, east-left-right, left-south}
@@ -64,36 +65,25 @@ module _ {rows columns : ℕ} (s : Sides rows columns) (falls : ℕ → Bool) (�
 
   -- p is at the bottom left of the cell to its north east
   sum-NE : sum n (at toNE) ≡ sum n ofSW
-  sum-NE = sum-shift n columns (at toNE) ofSW (omega (arith, row-fits s)) moved low high
-    where
-      moved : (a : ℕ) → a + columns < n → at toNE (a + columns) ≡ ofSW a
-      moved a h = rw (south-top s a, south-right s a, south a h, and-true (not (right columns a)), back a columns)
-
-      low : (p : ℕ) → p < columns → at toNE p ≡ 0
-      low p h = rw (top-true s p .1 h)
-
-      high : (a : ℕ) → a < n → n ≤ a + columns → ofSW a ≡ 0
-      high a h k = rw (bottom-true s a h .1 k, and-false (not (right columns a)))
+  sum-NE =
+      sum-shift n columns (at toNE) ofSW (omega (arith, row-fits s))
+      (λ a h. rw (south-top s a, south-right s a, south a h, and-true (not (right columns a)), back a columns))
+      (λ p h. rw (top-true s p .1 h))
+      (λ a h k. rw (bottom-true s a h .1 k, and-false (not (right columns a))))
 
   -- p is at the top right of the cell to its south west
   sum-SW : sum n (at toSW) ≡ sum n ofNE
-  sum-SW = sum-shift n 1 (at toSW) ofNE (omega (arith, row-fits s)) moved low high
+  sum-SW =
+      sum-shift n 1 (at toSW) ofNE (omega (arith, row-fits s)) (λ a h. moved a (right columns a) refl)
+      (λ p h. rw (left-zero s p h, and-false (not (bottom rows columns p))))
+      (λ a h k. rw (right-end s a h k))
     where
-      there : (a : ℕ) (e : Bool) → right columns a ≡ e → at toSW (a + 1) ≡ ofNE a
-      there a true e = rw (east-left-right s a, e, and-false (not (bottom rows columns (a + 1))))
-      there a false e =
+      moved : (a : ℕ) (e : Bool) → right columns a ≡ e → at toSW (a + 1) ≡ ofNE a
+      moved a true e = rw (east-left-right s a, e, and-false (not (bottom rows columns (a + 1))))
+      moved a false e =
           let i : a + 1 + columns ≡ a + columns + 1 = omega arith in
           let j : a + columns + 1 - 1 ≡ a + columns = omega arith in
           rw (east-left-right s a, east-bottom s a e, e, and-true (not (bottom rows columns a)), i, j, back a 1)
-
-      moved : (a : ℕ) → a + 1 < n → at toSW (a + 1) ≡ ofNE a
-      moved a h = there a (right columns a) refl
-
-      low : (p : ℕ) → p < 1 → at toSW p ≡ 0
-      low p h = rw (left-zero s p h, and-false (not (bottom rows columns p)))
-
-      high : (a : ℕ) → a < n → n ≤ a + 1 → ofNE a ≡ 0
-      high a h k = rw (right-end s a h k)
 
   -- p is at the bottom right of the cell to its north west
   sum-NW : sum n (at toNW) ≡ sum n ofSE
@@ -107,47 +97,28 @@ module _ {rows columns : ℕ} (s : Sides rows columns) (falls : ℕ → Bool) (�
           rw (i, east-left-right s (a + columns), south-right s a, k, j, back (a + columns) 1, back a 1, south a (omega arith))
 
       low : (p : ℕ) → p < columns + 1 → at toNW p ≡ 0
-      low p h = go (top columns p) refl
-        where
-          go : (e : Bool) → top columns p ≡ e → at toNW p ≡ 0
-          go true e = rw (e, and-false (not (left columns p)))
-          go false e = rw (left-south s p (omega (arith, top-false s p .0 e)))
+      low p h =
+          either (top columns p) (λ e. rw (e, and-false (not (left columns p)))) (λ e. rw (left-south s p (omega (arith, top-false s p .0 e))))
 
       high : (a : ℕ) → a < n → n ≤ a + (columns + 1) → ofSE a ≡ 0
-      high a h k = go (bottom rows columns a) refl
-        where
-          go : (e : Bool) → bottom rows columns a ≡ e → ofSE a ≡ 0
-          go true e = rw (e, and-false (not (right columns a)))
-          go false e = rw (← (south-right s a), right-end s (a + columns) (bottom-false s a h .0 e) (omega arith))
+      high a h k =
+          either (bottom rows columns a) (λ e. rw (e, and-false (not (right columns a))))
+          (λ e. rw (← (south-right s a), right-end s (a + columns) (bottom-false s a h .0 e) (omega arith)))
 
   -- p is at the right end of the border edge to its west, at the bottom end of that to its north
   sum-W : sum n (at toW) ≡ sum n ofW
-  sum-W = sum-shift n 1 (at toW) ofW (omega (arith, row-fits s)) moved low high
-    where
-      there : (a : ℕ) (e : Bool) → right columns a ≡ e → at toW (a + 1) ≡ ofW a
-      there a true e = rw (east-left-right s a, e)
-      there a false e = rw (east-left-right s a, e, east-top s a e, east-bottom s a e, back a 1)
-
-      moved : (a : ℕ) → a + 1 < n → at toW (a + 1) ≡ ofW a
-      moved a h = there a (right columns a) refl
-
-      low : (p : ℕ) → p < 1 → at toW p ≡ 0
-      low p h = rw (left-zero s p h)
-
-      high : (a : ℕ) → a < n → n ≤ a + 1 → ofW a ≡ 0
-      high a h k = rw (right-end s a h k)
+  sum-W =
+      sum-shift n 1 (at toW) ofW (omega (arith, row-fits s))
+      (λ a h. either (right columns a) (λ e. rw (east-left-right s a, e)) (λ e. rw (east-left-right s a, e, east-top s a e, east-bottom s a e, back a 1)))
+      (λ p h. rw (left-zero s p h))
+      (λ a h k. rw (right-end s a h k))
 
   sum-N : sum n (at toN) ≡ sum n ofN
-  sum-N = sum-shift n columns (at toN) ofN (omega (arith, row-fits s)) moved low high
-    where
-      moved : (a : ℕ) → a + columns < n → at toN (a + columns) ≡ ofN a
-      moved a h = rw (south-top s a, south-left s a, south-right s a, south a h, back a columns)
-
-      low : (p : ℕ) → p < columns → at toN p ≡ 0
-      low p h = rw (top-true s p .1 h)
-
-      high : (a : ℕ) → a < n → n ≤ a + columns → ofN a ≡ 0
-      high a h k = rw (bottom-true s a h .1 k)
+  sum-N =
+      sum-shift n columns (at toN) ofN (omega (arith, row-fits s))
+      (λ a h. rw (south-top s a, south-left s a, south-right s a, south a h, back a columns))
+      (λ p h. rw (top-true s p .1 h))
+      (λ a h k. rw (bottom-true s a h .1 k))
 
   gathered : (a : ℕ) → ofSW a + at toSE a + ofNE a + ofSE a + (at toE a + ofW a) + (at toS a + ofN a) ≡ fromPost τ rows columns falls a
   gathered a =

@@ -41,6 +41,10 @@ sum-lt (suc n) f g h j k l = go (ℕ-discrete j n) (sum-lt n f g (λ i m. h i (o
     go (yes e) ih = omega (arith, sum-le n f g (λ i m. h i (omega arith)), rw e at l)
     go (no e) ih = omega (arith, ih (omega arith) l, h n (omega arith))
 
+-- terms of equal sums, none of them greater in the second, are equal
+pub sum-same : (n : ℕ) (f g : ℕ → ℕ) → ((i : ℕ) → i < n → f i ≤ g i) → sum n f ≡ sum n g → (i : ℕ) → i < n → f i ≡ g i
+sum-same n f g h e i k = let no-less : f i < g i → ⊥ = λ l. omega (arith, sum-lt n f g h i k l) in omega (arith, h i k)
+
 pub sum-zero : (n : ℕ) (f : ℕ → ℕ) → ((i : ℕ) → i < n → f i ≡ 0) → sum n f ≡ 0
 unfolding sum
 sum-zero zero f h = refl
