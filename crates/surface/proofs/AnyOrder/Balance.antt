@@ -104,16 +104,17 @@ mark-index side (suc (suc k)) =
     )
     (omega arith)
 
+pub mark-turns : (lower : ℕ → ℕ → Bool) → StrictTotal lower → (rows columns : ℕ) (falls : ℕ → Bool) (p : ℕ)
+    → ((q : ℕ) → List·Memᴰ q (ring rows columns falls p) → q ≡ p → ⊥)
+    → let m = mark lower (ring rows columns falls) p in one (eqb m 1) + one (eqb m 2) + changes (λ q. lower q p) (ring rows columns falls p) / 2 ≡ 1 + multiplicity m
+mark-turns lower o rows columns falls p others = rw (mark-changes lower o rows columns falls p others) (mark-index _ _)
+
 module _ (lower : ℕ → ℕ → Bool) (o : StrictTotal lower) (rows columns : ℕ) (s : Sides rows columns) (falls : ℕ → Bool)
     (pit : (p : ℕ) → p < rows * columns → lower virtualPit p ≡ true)
     (others : (p q : ℕ) → p < rows * columns → List·Memᴰ q (ring rows columns falls p) → q ≡ p → ⊥)
   where
     abbrev theMark : ℕ → ℕ
     theMark = mark lower (ring rows columns falls)
-
-    pub index : (p : ℕ) → p < rows * columns
-        → one (eqb (theMark p) 1) + one (eqb (theMark p) 2) + changes (λ q. lower q p) (ring rows columns falls p) / 2 ≡ 1 + multiplicity (theMark p)
-    index p h = rw (mark-changes lower o rows columns falls p (λ q. others p q h)) (mark-index _ _)
 
     pub balance : let marks = listOf theMark (rows * columns) in peaks marks + pits marks ≡ 2 + saddles marks
     unfolding peaks pits saddles
@@ -123,7 +124,7 @@ module _ (lower : ℕ → ℕ → Bool) (o : StrictTotal lower) (rows columns : 
         let i : ℕ → ℕ = λ p. one (eqb (theMark p) 1) in
         let j : ℕ → ℕ = λ p. one (eqb (theMark p) 2) in
         let m : ℕ → ℕ = λ p. multiplicity (theMark p) in
-        let e : sum n (λ p. i p + i p + (j p + j p) + c p) ≡ sum n (λ p. 2 + (m p + m p)) = sum-ext n _ _ (λ p h. omega (arith, index p h, changes-even (λ q. lower q p) (ring rows columns falls p))) in
+        let e : sum n (λ p. i p + i p + (j p + j p) + c p) ≡ sum n (λ p. 2 + (m p + m p)) = sum-ext n _ _ (λ p h. omega (arith, mark-turns lower o rows columns falls p (λ q. others p q h), changes-even (λ q. lower q p) (ring rows columns falls p))) in
         omega (
           arith,
           sum-add n (λ p. i p + i p + (j p + j p)) c,

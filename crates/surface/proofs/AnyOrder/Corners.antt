@@ -74,16 +74,13 @@ module _ {rows columns : ℕ} (s : Sides rows columns) (falls : ℕ → Bool) (�
   -- p is at the top right of the cell to its south west
   sum-SW : sum n (at toSW) ≡ sum n ofNE
   sum-SW =
-      sum-shift n 1 (at toSW) ofNE (omega (arith, row-fits s)) (λ a h. moved a (right columns a) refl)
+      sum-shift n 1 (at toSW) ofNE (omega (arith, row-fits s))
+      (λ a h.
+      let i : a + 1 + columns ≡ a + columns + 1 = omega arith in
+      either (right columns a) (λ e. rw (east-left-right s a, e, and-false (not (bottom rows columns (a + 1)))))
+      (λ e. rw (east-left-right s a, east-bottom s a e, e, and-true (not (bottom rows columns a)), i, back (a + columns) 1, back a 1)))
       (λ p h. rw (left-zero s p h, and-false (not (bottom rows columns p))))
       (λ a h k. rw (right-end s a h k))
-    where
-      moved : (a : ℕ) (e : Bool) → right columns a ≡ e → at toSW (a + 1) ≡ ofNE a
-      moved a true e = rw (east-left-right s a, e, and-false (not (bottom rows columns (a + 1))))
-      moved a false e =
-          let i : a + 1 + columns ≡ a + columns + 1 = omega arith in
-          let j : a + columns + 1 - 1 ≡ a + columns = omega arith in
-          rw (east-left-right s a, east-bottom s a e, e, and-true (not (bottom rows columns a)), i, j, back a 1)
 
   -- p is at the bottom right of the cell to its north west
   sum-NW : sum n (at toNW) ≡ sum n ofSE

@@ -1,6 +1,6 @@
--- At every post joins and splits together are the multiplicity of its mark. Round the ring no two colours meet exactly once, and each change of colour is a
--- change of side: so there are no more bodies, below and above, than half the changes of side and one. Over all posts the two come to the same.
-use Prim.Native.Nat.{ℕ, _+_, _-_, _*_, _≤_, _<_}
+-- At every post joins and splits together are the multiplicity of its mark. Round its ring no two colours meet exactly once, and colours change only where the
+-- side does: so there is at most one body more, below and above, than half the changes of side. Over all posts the two come to the same, so that there is exactly one.
+use Prim.Native.Nat.{ℕ, _+_, _-_, _*_, _/_, _≤_, _<_}
 use native.Mathlib.Omega.{arith}
 use mathlib.Core.Path.{_≡_, refl, sym, ap}
 use mathlib.Core.Bool.{Bool, true, false, not, true≢false}
@@ -8,7 +8,7 @@ use mathlib.Core.List.{List, [], _∷_, List·Memᴰ, List·Memᴰ·head, List·
 use lib.Dec.{eqb}
 use borrow.Author.Tests.{eq-eqb}
 use Rattle.surface.specs.Lists.{lastOr, one}
-use Rattle.surface.specs.Plot.{reversed}
+use Rattle.surface.specs.Plot.{virtualPit, reversed}
 use Rattle.surface.specs.Edges.{Edge, ring}
 use Rattle.surface.specs.Marks.{mark, multiplicity}
 use Rattle.surface.specs.Patterns.{changes}
@@ -19,7 +19,7 @@ use Rattle.surface.proofs.AnyOrder.Grid.{not-pit}
 use Rattle.surface.proofs.AnyOrder.RingEdges.{ring-other}
 use Rattle.surface.proofs.AnyOrder.RingTouch.{Chain, ring-touch}
 use Rattle.surface.proofs.AnyOrder.Changes.{turn, changes-round}
-use Rattle.surface.proofs.AnyOrder.Balance.{changes-sum, index}
+use Rattle.surface.proofs.AnyOrder.Balance.{changes-sum, mark-turns}
 use Rattle.surface.proofs.AnyOrder.Parity.{meets-even}
 use Rattle.surface.proofs.AnyOrder.ClosedWalks.{differ, closed-walk}
 use Rattle.surface.proofs.AnyOrder.Agreement.{last-member}
@@ -46,12 +46,12 @@ module _ {rows columns : ℕ} {lower : ℕ → ℕ → Bool} {falls : ℕ → Bo
   abbrev n : ℕ
   n = rows * columns
 
-  -- the bodies below a post, which it joins, and those above it
-  abbrev joined : ℕ → ℕ
-  joined = bodiesAt lower (neighbours rows columns falls) n
+  -- how many bodies a post's neighbours lie in, below it and above it
+  abbrev bodiesBelow : ℕ → ℕ
+  bodiesBelow = bodiesAt lower (neighbours rows columns falls) n
 
-  abbrev parted : ℕ → ℕ
-  parted = bodiesAt (reversed lower) (neighbours rows columns falls) n
+  abbrev bodiesAbove : ℕ → ℕ
+  bodiesAbove = bodiesAt (reversed lower) (neighbours rows columns falls) n
 
   abbrev turns : ℕ → ℕ
   turns p = changes (λ q. lower q p) (ring rows columns falls p)
@@ -73,7 +73,7 @@ module _ {rows columns : ℕ} {lower : ℕ → ℕ → Bool} {falls : ℕ → Bo
           go false true false k = omega arith
           go false false false k = absurd (true≢false (sym (k refl)))
 
-  bodies-le : (p : ℕ) → p < n → joined p + parted p + (joined p + parted p) ≤ turns p + 2
+  bodies-le : (p : ℕ) → p < n → bodiesBelow p + bodiesAbove p + (bodiesBelow p + bodiesAbove p) ≤ turns p + 2
   bodies-le p h =
       omega (
         arith,
@@ -83,20 +83,28 @@ module _ {rows columns : ℕ} {lower : ℕ → ℕ → Bool} {falls : ℕ → Bo
         differ-le p h,
       )
 
-  -- twice as many bodies as changes of side, and two
-  pub bodies-turns : (p : ℕ) → p < n → joined p + parted p + (joined p + parted p) ≡ turns p + 2
-  bodies-turns =
-      sum-same n (λ p. joined p + parted p + (joined p + parted p)) (λ p. turns p + 2) bodies-le
-      (omega (
+  -- there is one body more than half the changes of side
+  pub bodies-turns : (p : ℕ) → p < n → bodiesBelow p + bodiesAbove p ≡ turns p / 2 + 1
+  bodies-turns p h =
+      omega (
         arith,
-        sum-add n (λ p. joined p + parted p) (λ p. joined p + parted p),
-        sum-add n joined parted,
-        down-all net,
-        up-all net,
-        sum-add n turns (λ _. 2),
-        sum-const n 2,
-        changes-sum lower (net .order) (net .sides) falls (λ p h. net .pitBelow p (not-pit (net .sides) h)),
-      ))
+        sum-same n (λ p. bodiesBelow p + bodiesAbove p + (bodiesBelow p + bodiesAbove p)) (λ p. turns p + 2) bodies-le
+            (omega (
+              arith,
+              sum-add n (λ p. bodiesBelow p + bodiesAbove p) (λ p. bodiesBelow p + bodiesAbove p),
+              sum-add n bodiesBelow bodiesAbove,
+              down-all net,
+              up-all net,
+              sum-add n turns (λ _. 2),
+              sum-const n 2,
+              changes-sum lower (net .order) (net .sides) falls pit,
+            ))
+            p
+            h,
+      )
+    where
+      pit : (p : ℕ) → p < n → lower virtualPit p ≡ true
+      pit p h = net .pitBelow p (not-pit (net .sides) h)
 
   pub joins-splits : (p : ℕ) → p < rows * columns
       → (bodiesAt lower (neighbours rows columns falls) (rows * columns) p - 1) + (bodiesAt (reversed lower) (neighbours rows columns falls) (rows * columns) p - 1)
@@ -106,9 +114,9 @@ module _ {rows columns : ℕ} {lower : ℕ → ℕ → Bool} {falls : ℕ → Bo
       omega (
         arith,
         bodies-turns p h,
-        index lower (net .order) rows columns (net .sides) falls (λ p h. net .pitBelow p (not-pit (net .sides) h)) (λ p q h m. ring-other (net .sides) falls p q h m) p h,
-        one-less (joined p),
-        one-less (parted p),
+        mark-turns lower (net .order) rows columns falls p (λ q m. ring-other (net .sides) falls p q h m),
+        one-less (bodiesBelow p),
+        one-less (bodiesAbove p),
         ap one (none-marked net (inOneBody lower (neighbours rows columns falls) n p) (λ q. lower q p) 2 p h (mark-pit net p h)),
         ap one (none-marked net (inOneBody (reversed lower) (neighbours rows columns falls) n p) (λ q. lower p q) 1 p h (mark-peak net p h)),
       )
