@@ -47,15 +47,28 @@ module _ (pl : Plot) (sides : Sides pl.rows pl.columns) (p : ℕ) (h : p < posts
 
   told : Told (λ i. p + strideTo c i) (λ m. m + (c + 1)) low 0 (places pl.rows c (fallsIn pl) p)
   unfolding places strides
-  told =
-      (λ _ e. north (inside (top c p) (p - c) e)
-      , (λ t _. omega (arith, top-false sides p .0 (not-true (top c p) (and-left (not (top c p)) _ t)))
-      , (λ _ e. east (inside (right c p) (p + 1) e)
-      , (λ _ _. omega arith
-      , (λ _ e. south (inside (bottom pl.rows c p) (p + c) e)
-      , (λ _ _. omega (arith, sides .wide)
-      , (λ _ e. west (inside (left c p) (p - 1) e)
-      , (λ t _. north-west (not-true (left c p) (and-left (not (left c p)) _ t)) (not-true (top c p) (and-left (not (top c p)) _ (and-right (not (left c p)) _ t))), tt))))))))
+  told = (
+    λ _ e. north (inside (top c p) (p - c) e),
+    (
+      λ t _. omega (arith, top-false sides p .0 (not-true (top c p) (and-left (not (top c p)) _ t))),
+      (
+        λ _ e. east (inside (right c p) (p + 1) e),
+        (
+          λ _ _. omega arith,
+          (
+            λ _ e. south (inside (bottom pl.rows c p) (p + c) e),
+            (
+              λ _ _. omega (arith, sides .wide),
+              (
+                λ _ e. west (inside (left c p) (p - 1) e),
+                (λ t _. north-west (not-true (left c p) (and-left (not (left c p)) _ t)) (not-true (top c p) (and-left (not (top c p)) _ (and-right (not (left c p)) _ t))), tt),
+              ),
+            ),
+          ),
+        ),
+      ),
+    ),
+  )
     where
       north : top c p ≡ false → p + 1 ≡ cond (top c p) virtualPit (p - c) + (c + 1)
       north e = rw e (omega (arith, top-false sides p .0 e))

@@ -4,7 +4,7 @@ use mathlib.Core.Path.{_≡_, refl, ap₂}
 use mathlib.Core.Bool.{Bool, true, false, cond, _&&_, _||_}
 use mathlib.Core.List.{List, [], _∷_, _++_, List·Memᴰ, List·Memᴰ·head, List·Memᴰ·tail, List·Memᴰ·cases-cons, List·Memᴰ·append-cases}
 use mathlib.Core.Logic.{⊎-elim}
-use Rattle.surface.specs.Lists.{any, all, takeWhile, lastOr}
+use Rattle.surface.specs.Lists.{keep, filter, any, all, takeWhile, lastOr}
 use Rattle.surface.specs.Edges.{lowest, lowestOr, runs, runsFrom}
 use Rattle.surface.specs.Marks.{mark}
 
@@ -27,6 +27,11 @@ module _ {s s′ : ℕ → Bool} where
   unfolding all
   all-agree [] h = refl
   all-agree (x ∷ l) h = ap₂ _&&_ (h x (List·Memᴰ·head refl)) (all-agree l (λ y m. h y (List·Memᴰ·tail m)))
+
+  pub filter-agree : (l : List ℕ) → Agree s s′ l → filter s l ≡ filter s′ l
+  unfolding filter
+  filter-agree [] h = refl
+  filter-agree (x ∷ l) h = ap₂ (λ b r. keep b x ++ r) (h x (List·Memᴰ·head refl)) (filter-agree l (λ y m. h y (List·Memᴰ·tail m)))
 
   takeWhile-agree : (l : List ℕ) → Agree s s′ l → takeWhile s l ≡ takeWhile s′ l
   unfolding takeWhile

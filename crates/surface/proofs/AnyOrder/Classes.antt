@@ -98,3 +98,23 @@ module _ (name : ℕ → ℕ) where
     where
       new : any (λ q. alike name q x) l ≡ false → (q : ℕ) → List·Memᴰ q l → name q ≡ name x → ⊥
       new e q k i = true≢false (sym (member-any (λ q. alike name q x) l q k (eq-eqb (name q) (name x) i)) ∙ e)
+
+  -- where names tell which members pass a test, those that pass it and those that do not have no classes in common
+  module _ (s : ℕ → Bool) (told : (q x : ℕ) → name q ≡ name x → s q ≡ s x) where
+    kept : (s : ℕ → Bool) (x : ℕ) (l : List ℕ) → ((q : ℕ) → name q ≡ name x → s q ≡ true) → any (λ q. alike name q x) l ≡ true → any (λ q. alike name q x) (filter s l) ≡ true
+    kept s x l tells e =
+        let m = any-some (λ q. alike name q x) l e in
+        member-any (λ q. alike name q x) (filter s l) (m .0) (member-filter s l (m .0) (m .1 .0) (tells (m .0) (eqb-true _ _ (m .1 .1)))) (m .1 .1)
+
+    fewer : (a b : Bool) → (b ≡ true → a ≡ true) → one (not a) ≤ one (not b)
+    fewer true b h = omega arith
+    fewer false true h = absurd (true≢false (sym (h refl)))
+    fewer false false h = omega arith
+
+    pub classes-sides : (l : List ℕ) → classes (alike name) (filter s l) + classes (alike name) (filter (λ q. not (s q)) l) ≤ classes (alike name) l
+    unfolding classes filter
+    classes-sides [] = omega arith
+    classes-sides (x ∷ l) =
+        either (s x)
+        (λ e. rw e (omega (arith, classes-sides l, fewer _ _ (kept s x l (λ q i. told q x i ∙ e)))))
+        (λ e. rw e (omega (arith, classes-sides l, fewer _ _ (kept (λ q. not (s q)) x l (λ q i. ap not (told q x i ∙ e))))))

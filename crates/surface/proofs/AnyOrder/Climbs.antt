@@ -73,8 +73,8 @@ module _ {rows columns : ℕ} {lower : ℕ → ℕ → Bool} {falls : ℕ → Bo
         λ q i. let k = filter-member (λ q. lower p q) _ q i in start-named p q h d (beside net p q (inl h) .0 (k .0)) (k .1) in
         let each : (m : ℕ) → List·Memᴰ m (starts p) → any (λ q. eqb (name q) (name m)) uppers ≡ true =
         λ m i.
-            let a = law .above p m h i in
-            member-any (λ q. eqb (name q) (name m)) uppers m (member-filter (λ q. lower p q) _ m (beside net p m (inl h) .1 (a .0)) (a .1)) (eq-eqb (name m) (name m) refl) in
+        let a = law .above p m h i in
+        member-any (λ q. eqb (name q) (name m)) uppers m (member-filter (λ q. lower p q) _ m (beside net p m (inl h) .1 (a .0)) (a .1)) (eq-eqb (name m) (name m) refl) in
         classes-ext _ (alike name) uppers (same-named (up-sweep net) p h d)
         ∙ omega (arith, classes-le name uppers (starts p) all, classes-le name (starts p) uppers each)
 
@@ -132,7 +132,7 @@ module _ {rows columns : ℕ} {lower : ℕ → ℕ → Bool} {falls : ℕ → Bo
                 absurd (omega (arith, b .1, ap rise (eqb-true (name (m .0)) q (m .1 .1)))))
                 (λ t. rw t))
 
-    climbs-ext : {k : ℕ} {name name′ : ℕ → ℕ} → ((v : ℕ) → name′ v ≡ name v) → Climbs k name → Climbs k name′
+    pub climbs-ext : {k : ℕ} {name name′ : ℕ → ℕ} → ((v : ℕ) → name′ v ≡ name v) → Climbs k name → Climbs k name′
     climbs-ext {k} {name} {name′} e c =
         record {
           named =

@@ -80,7 +80,7 @@ module _ {rows columns : ℕ} {lower : ℕ → ℕ → Bool} {falls : ℕ → Bo
   down-sweep =
       sweep (net .sides) falls lower (net .order) around beside (n + 1) (λ p h. omega (arith, rank-le lower (net .order) n p h)) (λ _. pit-lowest)
 
-  down-all : sum n (bodiesAt lower around n) ≡ n
+  pub down-all : sum n (bodiesAt lower around n) ≡ n
   unfolding bodiesAt
   down-all = joined-with-pit down-sweep low way
     where
@@ -107,7 +107,7 @@ module _ {rows columns : ℕ} {lower : ℕ → ℕ → Bool} {falls : ℕ → Bo
       sweep (net .sides) falls (reversed lower) (reversed-strict (net .order)) around beside (rise virtualPit) post-rise
       (λ h v i. absurd (omega arith))
 
-  up-all : sum n (bodiesAt (reversed lower) around n) + 1 ≡ n
+  pub up-all : sum n (bodiesAt (reversed lower) around n) + 1 ≡ n
   unfolding bodiesAt
   up-all =
       joined-without up-sweep (omega arith) 0 (some-post net)
@@ -118,15 +118,17 @@ module _ {rows columns : ℕ} {lower : ℕ → ℕ → Bool} {falls : ℕ → Bo
   marks = listOf (mark lower (ring rows columns falls)) n
 
   -- a mark that tells that no neighbour passes a test is that of the posts without bodies
+  pub none-marked : (same : ℕ → ℕ → Bool) (s : ℕ → Bool) (k p : ℕ) → p < n → mark lower (ring rows columns falls) p ≡ k ↔ any s (ring rows columns falls p) ≡ false
+      → eqb (classes same (filter s (around p))) 0 ≡ eqb (mark lower (ring rows columns falls) p) k
+  none-marked same s k p h tells =
+      classes-none same s (around p)
+      ∙ rw (post-around p h) (same-test _ _ (λ e. eq-eqb _ _ (tells .1 (not-true _ e))) (λ e. ap not (tells .0 (eqb-true _ _ e))))
+
   count-none : (same : ℕ → ℕ → ℕ → Bool) (s : ℕ → ℕ → Bool) (k : ℕ) → ((p : ℕ) → p < n → mark lower (ring rows columns falls) p ≡ k ↔ any (s p) (ring rows columns falls p) ≡ false)
       → sum n (λ p. one (eqb (classes (same p) (filter (s p) (around p))) 0)) ≡ count (λ m. eqb m k) marks
-  count-none same s k tells = sum-ext n _ _ (λ p h. ap one (each p h)) ∙ sym (count-listOf (λ m. eqb m k) (mark lower (ring rows columns falls)) n)
-    where
-      each : (p : ℕ) → p < n → eqb (classes (same p) (filter (s p) (around p))) 0 ≡ eqb (mark lower (ring rows columns falls) p) k
-      each p h =
-          classes-none (same p) (s p) (around p)
-          ∙ rw (post-around p h)
-          (same-test _ _ (λ e. eq-eqb _ _ (tells p h .1 (not-true _ e))) (λ e. ap not (tells p h .0 (eqb-true _ _ e))))
+  count-none same s k tells =
+      sum-ext n _ _ (λ p h. ap one (none-marked (same p) (s p) k p h (tells p h)))
+      ∙ sym (count-listOf (λ m. eqb m k) (mark lower (ring rows columns falls)) n)
 
   pub joins-sum : sum n (λ p. bodiesAt lower around n p - 1) + 1 ≡ pits marks
   unfolding bodiesAt pits

@@ -1,7 +1,7 @@
 -- A ring's pattern has the ring's changes of side: a place that carries the sign before it adds none. So a pattern tells the mark.
 use Prim.Native.Nat.{ℕ, zero, suc, _+_, _*_, _-_, _/_, _%_}
 use native.Mathlib.Omega.{arith}
-use mathlib.Core.Path.{_≡_, refl, sym, _∙_, ap}
+use mathlib.Core.Path.{_≡_, refl, sym}
 use mathlib.Core.Bool.{Bool, true, false, cond, not, _&&_}
 use mathlib.Core.List.{List, [], _∷_, _++_, List·Memᴰ}
 use lib.Dec.{eqb}
@@ -10,11 +10,10 @@ use Rattle.surface.specs.Lists.{keep, one}
 use Rattle.surface.specs.Plot.{virtualPit}
 use Rattle.surface.specs.Edges.{Place, place, members, places, ring, top}
 use Rattle.surface.specs.Marks.{mark}
-use Rattle.surface.specs.Flags.{markBy}
 use Rattle.surface.specs.Patterns.{changes, changesFrom, carried, patternOf, signsOf, changesIn, markIn}
 use Rattle.surface.proofs.General.Order.{StrictTotal}
-use Rattle.surface.proofs.AnyOrder.Runs.{lastSide, lastSide-lastOr, changes-starts, markFor-circle}
-use Rattle.surface.proofs.AnyOrder.Signs.{any-above, lastSide-members}
+use Rattle.surface.proofs.AnyOrder.Runs.{lastSide, lastSide-lastOr}
+use Rattle.surface.proofs.AnyOrder.Signs.{lastSide-members, mark-changes}
 
 abbrev id : Bool → Bool
 id x = x
@@ -70,10 +69,5 @@ module _ (lower : ℕ → ℕ → Bool) (o : StrictTotal lower) (rows columns : 
   first-sign = digit _ _ .0
 
   pub mark-pattern : ((q : ℕ) → List·Memᴰ q (ring rows columns falls p) → q ≡ p → ⊥) → mark lower (ring rows columns falls) p ≡ markIn (patternOf eight)
-  unfolding mark markIn ring places members
-  mark-pattern others =
-      rw (any-above lower o p (ring rows columns falls p) others, first-sign, pattern-changes, changes-starts low _ _)
-      (markFor-circle low _ _ ∙ ap (markBy _) (sym half))
-    where
-      half : {n : ℕ} → 2 * n / 2 ≡ n
-      half = omega arith
+  unfolding markIn
+  mark-pattern others = rw (first-sign, pattern-changes) (mark-changes lower o rows columns falls p others)

@@ -53,7 +53,7 @@ module _ {rows columns : ℕ} (s : Sides rows columns) (falls : ℕ → Bool) wh
   Joined = Edge rows columns falls
 
   -- from corner to corner of a cell
-  edge-cell : {a x y : ℕ} → Cell rows columns a → (i j : Corner) → joined (falls a) i j ≡ true → x ≡ corner columns a i → y ≡ corner columns a j → Joined x y
+  pub edge-cell : {a x y : ℕ} → Cell rows columns a → (i j : Corner) → joined (falls a) i j ≡ true → x ≡ corner columns a i → y ≡ corner columns a j → Joined x y
   edge-cell {a} c i j d ex ey =
       let t : isCell rows columns a ≡ true = cc (c .notRight, c .notBottom) in
       ofCell a (c .inPlot) (true-T t) i j (true-T d) ex ey
@@ -68,17 +68,17 @@ module _ {rows columns : ℕ} (s : Sides rows columns) (falls : ℕ → Bool) wh
   along-cell c false i j k e f g ex ey ez = edge-cell c i k g ex ez
 
   -- from a border post to the virtual pit
-  edge-top : {q : ℕ} → q < rows * columns → top columns q ≡ true → Joined q virtualPit
+  pub edge-top : {q : ℕ} → q < rows * columns → top columns q ≡ true → Joined q virtualPit
   edge-top {q} k e = let b : isBorder rows columns q ≡ true = cc in toPit k (true-T b) refl
 
-  edge-right : {q : ℕ} → q < rows * columns → right columns q ≡ true → Joined q virtualPit
+  pub edge-right : {q : ℕ} → q < rows * columns → right columns q ≡ true → Joined q virtualPit
   edge-right {q} k e = let b : isBorder rows columns q ≡ true = cc (or-true (top columns q)) in toPit k (true-T b) refl
 
-  edge-bottom : {q : ℕ} → q < rows * columns → bottom rows columns q ≡ true → Joined q virtualPit
+  pub edge-bottom : {q : ℕ} → q < rows * columns → bottom rows columns q ≡ true → Joined q virtualPit
   edge-bottom {q} k e =
       let b : isBorder rows columns q ≡ true = cc (or-true (top columns q), or-true (right columns q)) in toPit k (true-T b) refl
 
-  edge-left : {q : ℕ} → q < rows * columns → left columns q ≡ true → Joined q virtualPit
+  pub edge-left : {q : ℕ} → q < rows * columns → left columns q ≡ true → Joined q virtualPit
   edge-left {q} k e =
       let b : isBorder rows columns q ≡ true = cc (or-true (top columns q), or-true (right columns q), or-true (bottom rows columns q)) in toPit k (true-T b) refl
 

@@ -1,21 +1,23 @@
 -- The eight signs of a post: going round the places N, NE, .. NW, whether the member is below the post; a place with no member has the sign of the place
--- before it. (At N there is always a member.) The mark of a post is settled by its signs.
-use Prim.Native.Nat.{ℕ, _+_, _-_, _≤_}
+-- before it. (At N there is always a member.) And the mark of a post, by the changes of side round its ring.
+use Prim.Native.Nat.{ℕ, _+_, _-_, _/_, _≤_}
 use native.Mathlib.Omega.{arith}
-use mathlib.Core.Path.{_≡_, refl, sym, _∙_, ap, ap₂}
+use mathlib.Core.Path.{_≡_, refl}
 use mathlib.Core.Bool.{Bool, true, false, cond, not, _&&_, _||_}
 use mathlib.Core.List.{List, [], _∷_, _++_, List·Memᴰ}
 use lib.Dec.{eqb}
-use lib.ListN.{getD, length}
-use Rattle.surface.specs.Lists.{keep, any, all, lastOr, one}
+use lib.ListN.{getD}
+use Rattle.surface.specs.Lists.{keep, any, all, lastOr}
 use Rattle.surface.specs.Plot.{virtualPit}
-use Rattle.surface.specs.Edges.{Place, members, places, ring, runs, top, bottom, left, right}
-use Rattle.surface.specs.Marks.{mark, markFor}
+use Rattle.surface.specs.Edges.{Place, members, places, ring, top, bottom, left, right}
+use Rattle.surface.specs.Marks.{mark}
 use Rattle.surface.specs.Flags.{markBy}
-use Rattle.surface.specs.Patterns.{carried}
+use Rattle.surface.specs.Patterns.{carried, changes}
 use Rattle.surface.proofs.General.Bools.{either}
 use Rattle.surface.proofs.General.Order.{StrictTotal}
-use Rattle.surface.proofs.AnyOrder.Runs.{starts, lastSide, markFor-circle, lastSide-lastOr}
+use Rattle.surface.proofs.AnyOrder.RingPlaces.{ring-short}
+use Rattle.surface.proofs.AnyOrder.Runs.{lastSide}
+use Rattle.surface.proofs.AnyOrder.Changes.{changes-le, markFor-changes}
 
 pub record Signs : Type 0 where
   pub n : Bool
@@ -41,19 +43,6 @@ signs rows columns falls low p =
       w = getD l 6 true;
       nw = getD l 7 true;
     }
-
--- a lower run starts where a sign is true and the one before it is not
-abbrev pub rise : Bool → Bool → ℕ
-rise a b = one (b && not a)
-
--- how many lower runs start
-unfoldable pub rises : Signs → ℕ
-rises g =
-    rise (g .nw) (g .n) + rise (g .n) (g .ne) + rise (g .ne) (g .e) + rise (g .e) (g .se) + rise (g .se) (g .s) + rise (g .s) (g .sw) + rise (g .sw) (g .w)
-    + rise (g .w) (g .nw)
-
-unfoldable pub markOfSigns : Signs → ℕ
-markOfSigns g = markBy (g .n) (rises g)
 
 -- the signs by the sides of p's neighbours: t b f l, on which borders p is; ne se sw nw, whether the cell's diagonal runs to p; N NE .. NW, whether the
 -- neighbour is below p
@@ -95,22 +84,7 @@ signs-from rows columns falls low p pit =
       side low pit (left columns p) (p - 1),
     )
 
-risesFrom : Bool → List Bool → ℕ
-risesFrom x [] = 0
-risesFrom x (g ∷ l) = rise x g + risesFrom g l
-
 module _ (low : ℕ → Bool) where
-  starts-members : (x : Bool) (l : List Place) → starts low x (members l) ≡ risesFrom x (carried low x l)
-  unfolding starts members carried risesFrom
-  starts-members x [] = refl
-  starts-members x (y ∷ l) = go (y .taken) x (y .member) (starts-members (cond (y .taken) (low (y .member)) x) l)
-    where
-      go : (b x : Bool) (q : ℕ) → let g = cond b (low q) x in starts low g (members l) ≡ risesFrom g (carried low g l)
-          → starts low x (keep b q ++ members l) ≡ rise x g + risesFrom g (carried low g l)
-      go true x q h = omega arith
-      go false true q h = omega arith
-      go false false q h = omega arith
-
   pub lastSide-members : (x : Bool) (l : List Place) → lastSide low x (members l) ≡ lastOr x (carried low x l)
   unfolding lastSide members carried lastOr
   lastSide-members x [] = refl
@@ -120,15 +94,6 @@ module _ (low : ℕ → Bool) where
           → lastSide low x (keep b q ++ members l) ≡ lastOr g (carried low g l)
       go true x q h = h
       go false x q h = h
-
-module _ (rows columns : ℕ) (falls low : ℕ → Bool) (p : ℕ) where
-  lastSide-ring : (x : Bool) → lastSide low x (ring rows columns falls p) ≡ signs rows columns falls low p .nw
-  unfolding ring places signs lastOr carried
-  lastSide-ring x = lastSide-members low x (places rows columns falls p)
-
-  starts-ring : let g = signs rows columns falls low p in starts low (g .nw) (ring rows columns falls p) ≡ rises g
-  unfolding ring places signs rises carried risesFrom
-  starts-ring = starts-members low _ (places rows columns falls p) ∙ omega arith
 
 -- what is not below a post is above it, for every member of a list that is not the post itself
 pub any-above : (lower : ℕ → ℕ → Bool) → StrictTotal lower → (p : ℕ) (l : List ℕ) → ((q : ℕ) → List·Memᴰ q l → q ≡ p → ⊥)
@@ -142,38 +107,7 @@ any-above lower o p (x ∷ l) h =
     go true b = refl
     go false b = refl
 
-markOfSigns-circle : (low : ℕ → Bool) (x : ℕ) (l : List ℕ) (g : Signs) → low x ≡ g .n → lastSide low true (x ∷ l) ≡ g .nw → starts low (g .nw) (x ∷ l) ≡ rises g
-    → markFor (not (all low (x ∷ l))) (any low (x ∷ l)) (length (runs low (x ∷ l))) ≡ markOfSigns g
-unfolding markOfSigns lastSide
-markOfSigns-circle low x l g first last all =
-    markFor-circle low x l ∙ ap₂ markBy first (ap (λ (b : Bool). starts low b (x ∷ l)) (sym (lastSide-lastOr low x l) ∙ last) ∙ all)
-
--- the mark of a post is that of its signs
-pub mark-signs : (lower : ℕ → ℕ → Bool) → StrictTotal lower → (rows columns : ℕ) (falls : ℕ → Bool) (p : ℕ)
-    → ((q : ℕ) → List·Memᴰ q (ring rows columns falls p) → q ≡ p → ⊥)
-    → mark lower (ring rows columns falls) p ≡ markOfSigns (signs rows columns falls (λ q. lower q p) p)
-unfolding mark ring places members signs carried
-mark-signs lower o rows columns falls p others =
-    let low : ℕ → Bool = λ q. lower q p in
-    rw (any-above lower o p (ring rows columns falls p) others)
-    (markOfSigns-circle low _ _ _ refl (lastSide-ring rows columns falls low p true) (starts-ring rows columns falls low p))
-
--- of two neighbouring steps round the ring at most one rises, so no ring has more than four lower runs, and a mark is from 0 to 5
-rise-twice : (a b c : Bool) → rise a b + rise b c ≤ 1
-rise-twice true true true = omega arith
-rise-twice true true false = omega arith
-rise-twice true false true = omega arith
-rise-twice true false false = omega arith
-rise-twice false true true = omega arith
-rise-twice false true false = omega arith
-rise-twice false false true = omega arith
-rise-twice false false false = omega arith
-
-pub rises-le : (g : Signs) → rises g ≤ 4
-unfolding rises
-rises-le g =
-    omega (arith, rise-twice (g .nw) (g .n) (g .ne), rise-twice (g .ne) (g .e) (g .se), rise-twice (g .se) (g .s) (g .sw), rise-twice (g .sw) (g .w) (g .nw))
-
+-- no ring has more than eight changes of side, and so no more than four lower runs
 markBy-le : (side : Bool) (k : ℕ) → k ≤ 4 → markBy side k ≤ 5
 unfolding markBy
 markBy-le side k h = either (eqb k 0) (λ e. rw e (first side)) (λ e. rw e (either (eqb k 1) (λ i. rw i (omega arith)) (λ i. rw i (omega arith))))
@@ -182,9 +116,17 @@ markBy-le side k h = either (eqb k 0) (λ e. rw e (first side)) (λ e. rw e (eit
     first true = omega arith
     first false = omega arith
 
-pub mark-range : (lower : ℕ → ℕ → Bool) → StrictTotal lower → (rows columns : ℕ) (falls : ℕ → Bool) (p : ℕ)
-    → ((q : ℕ) → List·Memᴰ q (ring rows columns falls p) → q ≡ p → ⊥)
-    → mark lower (ring rows columns falls) p ≤ 5
-unfolding markOfSigns
-mark-range lower o rows columns falls p others =
-    rw (mark-signs lower o rows columns falls p others) (markBy-le _ _ (rises-le (signs rows columns falls (λ q. lower q p) p)))
+module _ (lower : ℕ → ℕ → Bool) (o : StrictTotal lower) (rows columns : ℕ) (falls : ℕ → Bool) (p : ℕ)
+    (others : (q : ℕ) → List·Memᴰ q (ring rows columns falls p) → q ≡ p → ⊥)
+  where
+    -- the mark of a post, by the side of its ring's first member and the changes of side round its ring
+    pub mark-changes : mark lower (ring rows columns falls) p
+        ≡ markBy (lower (cond (top columns p) virtualPit (p - columns)) p) (changes (λ q. lower q p) (ring rows columns falls p) / 2)
+    unfolding mark ring places members
+    mark-changes = rw (any-above lower o p (ring rows columns falls p) others) (markFor-changes (λ q. lower q p) _ _)
+
+    -- a mark is from 0 to 5
+    pub mark-range : mark lower (ring rows columns falls) p ≤ 5
+    mark-range =
+        rw mark-changes
+        (markBy-le _ _ (omega (arith, changes-le (λ q. lower q p) (ring rows columns falls p), ring-short rows columns falls p)))

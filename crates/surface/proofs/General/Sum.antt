@@ -41,6 +41,10 @@ sum-lt (suc n) f g h j k l = go (ℕ-discrete j n) (sum-lt n f g (λ i m. h i (o
     go (yes e) ih = omega (arith, sum-le n f g (λ i m. h i (omega arith)), rw e at l)
     go (no e) ih = omega (arith, ih (omega arith) l, h n (omega arith))
 
+-- terms of equal sums, none of them greater in the second, are equal
+pub sum-same : (n : ℕ) (f g : ℕ → ℕ) → ((i : ℕ) → i < n → f i ≤ g i) → sum n f ≡ sum n g → (i : ℕ) → i < n → f i ≡ g i
+sum-same n f g h e i k = let no-less : f i < g i → ⊥ = λ l. omega (arith, sum-lt n f g h i k l) in omega (arith, h i k)
+
 pub sum-zero : (n : ℕ) (f : ℕ → ℕ) → ((i : ℕ) → i < n → f i ≡ 0) → sum n f ≡ 0
 unfolding sum
 sum-zero zero f h = refl
@@ -55,6 +59,21 @@ sum-at (suc n) r c h = go (ℕ-discrete n r) (sum-at n r c)
     go : Dec (n ≡ r) → (r < n → sum n (λ v. cond (eqb v r) c 0) ≡ c) → sum n (λ v. cond (eqb v r) c 0) + cond (eqb n r) c 0 ≡ c
     go (yes e) ih = rw (eq-eqb n r e) (omega (arith, sum-zero n (λ v. cond (eqb v r) c 0) (λ v k. rw (ne-eqb v r (omega arith)))))
     go (no e) ih = rw (ne-eqb n r e) (omega (arith, ih (omega arith)))
+
+-- where all other terms are even, a sum is even or odd as one term is
+pub sum-even : (n : ℕ) (f : ℕ → ℕ) → ((i : ℕ) → i < n → f i % 2 ≡ 0) → sum n f % 2 ≡ 0
+unfolding sum
+sum-even zero f h = refl
+sum-even (suc n) f h = omega (arith, sum-even n f (λ i k. h i (omega arith)), h n (omega arith))
+
+pub sum-parity : (n : ℕ) (f : ℕ → ℕ) (p : ℕ) → p < n → ((i : ℕ) → i < n → (i ≡ p → ⊥) → f i % 2 ≡ 0) → sum n f % 2 ≡ f p % 2
+unfolding sum
+sum-parity zero f p h k = absurd (omega arith)
+sum-parity (suc n) f p h k = go (ℕ-discrete p n) (λ l. sum-parity n f p l (λ i m. k i (omega arith)))
+  where
+    go : Dec (p ≡ n) → (p < n → sum n f % 2 ≡ f p % 2) → (sum n f + f n) % 2 ≡ f p % 2
+    go (yes e) ih = rw e (omega (arith, sum-even n f (λ i l. k i (omega arith) (omega arith))))
+    go (no e) ih = omega (arith, ih (omega arith), k n (omega arith) (omega arith))
 
 -- a sum in two parts
 pub sum-split : (m k : ℕ) (f : ℕ → ℕ) → sum (m + k) f ≡ sum m f + sum k (λ i. f (m + i))

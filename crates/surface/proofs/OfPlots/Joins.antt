@@ -1,5 +1,5 @@
 -- Joins and splits of a plot: what the laws over any order and diagonals say of them.
-use Prim.Native.Nat.{ℕ, _+_, _-_, _<_}
+use Prim.Native.Nat.{ℕ, _+_, _<_}
 use native.Mathlib.Omega.{arith}
 use mathlib.Core.Path.{_≡_}
 use mathlib.Core.Logic.{inl, _↔_}
@@ -9,13 +9,14 @@ use Rattle.surface.specs.Lists.{total}
 use Rattle.surface.specs.Plot.{Plot, posts, Sides, below, directed}
 use Rattle.surface.specs.Edges.{fallsIn, ringOf}
 use Rattle.surface.specs.Ways.{Way, EdgeOf}
-use Rattle.surface.specs.Marks.{markAt, marksOf, peaks, pits, saddles}
+use Rattle.surface.specs.Marks.{markAt, multiplicity, marksOf, peaks, pits, saddles}
 use Rattle.surface.specs.Bodies.{inOneBody, BelowOf, neighboursOf, joinsAt, splitsAt, joinsOf, splitsOf}
 use Rattle.surface.proofs.General.ListOf.{total-listOf}
 use Rattle.surface.proofs.AnyOrder.Order.{directed-strict, rank-falls}
 use Rattle.surface.proofs.AnyOrder.Ways.{way-map}
 use Rattle.surface.proofs.AnyOrder.Bodies.{rank-lower, tells}
 use Rattle.surface.proofs.AnyOrder.Joins.{beside, joins-sum, splits-sum, both-sum}
+use Rattle.surface.proofs.AnyOrder.JoinsSplits.{joins-splits}
 use Rattle.surface.proofs.OfPlots.HeightOrder.{below-strict}
 use Rattle.surface.proofs.OfPlots.Instance.{any-network}
 
@@ -42,3 +43,8 @@ module _ (pl : Plot) (sides : Sides pl.rows pl.columns) where
   unfolding joinsOf joinsAt splitsOf splitsAt marksOf markAt ringOf
   both-total =
       omega (arith, total-listOf (λ x. x) (joinsAt pl) (posts pl), total-listOf (λ x. x) (splitsAt pl) (posts pl), both-sum (any-network pl sides))
+
+  -- and so they are at every post
+  pub post-joins-splits : (p : ℕ) → p < posts pl → joinsAt pl p + splitsAt pl p ≡ multiplicity (markAt pl p)
+  unfolding joinsAt splitsAt markAt ringOf
+  post-joins-splits = joins-splits (any-network pl sides)

@@ -4,17 +4,17 @@ use Prim.Native.Nat.{ℕ, _+_, _*_, _≤_, _<_}
 use native.Mathlib.Omega.{arith}
 use mathlib.Core.Path.{_≡_}
 use mathlib.Core.Bool.{Bool, true, false}
-use mathlib.Core.List.{List, [], _∷_}
-use lib.ListN.{length, getD}
+use lib.ListN.{getD}
 use Rattle.surface.specs.Lists.{one}
 use Rattle.surface.specs.Plot.{Plot, below, PostOf}
 use Rattle.surface.specs.Edges.{fallsIn, ringOf}
 use Rattle.surface.specs.Marks.{markAt}
 use Rattle.surface.specs.Flags.{signBy, pairBy, lowerBy, upperBy, eastPair, southPair, northPair, westSign, westPair}
-use Rattle.surface.specs.Patterns.{changes, changesFrom, signsAt, patternAt, signsOf, changesIn, changeTable, markIn}
+use Rattle.surface.specs.Patterns.{changes, signsAt, patternAt, signsOf, changesIn, changeTable, markIn}
 use Rattle.surface.proofs.General.ListOf.{getD-listOf}
 use Rattle.surface.proofs.AnyOrder.Grid.{not-pit}
 use Rattle.surface.proofs.AnyOrder.RingEdges.{ring-other}
+use Rattle.surface.proofs.AnyOrder.Changes.{changes-le}
 use Rattle.surface.proofs.AnyOrder.Patterns.{pattern-changes, mark-pattern}
 use Rattle.surface.proofs.AnyOrder.PatternFlags.{pattern-by-flags}
 use Rattle.surface.proofs.OfPlots.HeightOrder.{below-strict, pit-below}
@@ -55,17 +55,9 @@ module _ {pl : Plot} {p : ℕ} (post : PostOf pl p) where
   pattern-lt = omega (arith, pattern-flags, pairs-le pl p)
 
 -- no more changes than signs
-changesFrom-le : (x : Bool) (l : List Bool) → changesFrom (λ y. y) x l ≤ length l
-unfolding changesFrom
-changesFrom-le x [] = omega arith
-changesFrom-le true (true ∷ l) = omega (arith, changesFrom-le true l)
-changesFrom-le true (false ∷ l) = omega (arith, changesFrom-le false l)
-changesFrom-le false (true ∷ l) = omega (arith, changesFrom-le true l)
-changesFrom-le false (false ∷ l) = omega (arith, changesFrom-le false l)
-
 pub changesIn-le : (k : ℕ) → changesIn k ≤ 8
-unfolding changesIn changes signsOf
-changesIn-le k = changesFrom-le _ (signsOf 8 k)
+unfolding changesIn signsOf
+changesIn-le k = changes-le (λ x. x) (signsOf 8 k)
 
 -- the table's rule at each entry
 pub table-at : (k : ℕ) → k < 256 → getD changeTable k 0 ≡ changesIn k
