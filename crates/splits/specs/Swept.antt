@@ -5,7 +5,7 @@ use mathlib.Core.List.{List}
 use Rattle.surface.specs.Lists.{listOf}
 use Rattle.surface.specs.Plot.{Plot, posts, Valid}
 use Rattle.surface.specs.Patterns.{patternAt, startTable}
-use Rattle.starts.specs.Starts.{strides, postAt, firstStart}
+use Rattle.starts.specs.Starts.{postAt, firstStart}
 use Rattle.saddle_order.specs.Ascending.{Ascending}
 
 -- the post where p's first upper run starts, or p where it has none

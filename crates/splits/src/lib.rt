@@ -53,25 +53,39 @@ fn sweep(
     }
 }
 
-// The splits of every post, by the patterns of the plot.
+// The splits of every post, by the patterns of the plot; the other two lists are for the work.
+fn sort_and_sweep(
+    heights: &[i32],
+    grid: Grid,
+    patterns: &[u8],
+    sorted: &mut [u16],
+    leads: &mut [u16],
+    splits: &mut [u8],
+)
+    requires { ⌜ Valid (plotOf grid (now heights)) × (now patterns ≡ listOf (patternAt (plotOf grid (now heights))) (posts (plotOf grid (now heights)))) ⌝ }
+    requires { ⌜ (length (now sorted) ≡ posts (plotOf grid (now heights))) × (length (now leads) ≡ posts (plotOf grid (now heights))) × (length (now splits) ≡ posts (plotOf grid (now heights))) ⌝ }
+    ensures { λ _. ⌜ now (splits .exit) ≡ splitsOf (plotOf grid (now (heights .entry))) ⌝ }
+{
+    let m = sort_saddles(heights, grid, patterns, &change_table(), sorted);
+    let table = start_table();
+    fill_leads(grid.columns, patterns, &table, leads);
+    clear(splits);
+    sweep(heights, grid, patterns, sorted, m, &table, leads, splits);
+}
+
+// The same with lists of its own.
 pub fn fill_splits(heights: &[i32], grid: Grid, patterns: &[u8], splits: &mut [u8])
     requires { ⌜ Valid (plotOf grid (now heights)) × (now patterns ≡ listOf (patternAt (plotOf grid (now heights))) (posts (plotOf grid (now heights)))) × (length (now splits) ≡ posts (plotOf grid (now heights))) ⌝ }
     ensures { λ _. ⌜ now (splits .exit) ≡ splitsOf (plotOf grid (now (heights .entry))) ⌝ }
 {
     let n = heights.len();
-    let table = start_table();
     let mut sorted = [0u16; MAX_POSTS];
-    let m = sort_saddles(heights, grid, patterns, &change_table(), &mut sorted[..n]);
     let mut leads = [0u16; MAX_POSTS];
-    fill_leads(grid.columns, patterns, &table, &mut leads[..n]);
-    clear(splits);
-    sweep(
+    sort_and_sweep(
         heights,
         grid,
         patterns,
-        &sorted[..n],
-        m,
-        &table,
+        &mut sorted[..n],
         &mut leads[..n],
         splits,
     );

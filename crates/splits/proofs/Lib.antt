@@ -1,0 +1,2 @@
+-- The sweep over the saddles.
+pub mod Sweeping
