@@ -5,6 +5,7 @@ pub mod MarkCalls
 pub mod RingCall
 pub mod LineCalls
 pub mod PartsCall
+pub mod JoinsCall
 pub mod FileCalls
 pub mod RoundTrip
 pub mod FirstVersion

@@ -11,9 +11,10 @@ use Rattle.surface.specs.Plot.{Plot, posts, reshot}
 use Rattle.surface.specs.Marks.{markAt, marksOf, redrawn, peaks, pits, saddles}
 use Rattle.surface.specs.Codes.{ringBytes, runsBelow}
 use Rattle.surface.specs.Lines.{Descent, next, line, down, up, dalesOf, hillsOf}
+use Rattle.surface.specs.Bodies.{joinsOf, splitsOf}
 use Rattle.surface.specs.SurveyFile.{spacingsIn, heightsIn, fileOf}
 use Rattle.surface.specs.Settings.{ruleIn, nameIn, nameBytes}
-use Rattle.surface.specs.Refusals.{settled, sheetVerdict, settingsVerdict, surveyVerdict, reshootVerdict, ringVerdict, nextVerdict, lineVerdict, partsVerdict, readVerdict, writeVerdict}
+use Rattle.surface.specs.Refusals.{settled, sheetVerdict, settingsVerdict, surveyVerdict, reshootVerdict, ringVerdict, joinsVerdict, nextVerdict, lineVerdict, partsVerdict, readVerdict, writeVerdict}
 use Rattle.surface.specs.declared.Grid.{Grid}
 use Rattle.surface.specs.declared.Answer.{Answer}
 use Rattle.surface.specs.declared.Sheet.{Sheet}
@@ -93,6 +94,16 @@ module _ (pl : Plot) where
 
   unfoldable pub ringList : ℕ → List ℕ → List ℕ
   ringList post ring = settled (ringVerdict pl post ring) (ringBytes pl post) ring
+
+  -- joins_and_splits(sheet, rows, columns, heights, joins, splits)
+  unfoldable pub joinsAnswer : List ℕ → List ℕ → Answer
+  joinsAnswer joins splits = joinsVerdict pl joins splits
+
+  unfoldable pub joinsList : List ℕ → List ℕ → List ℕ
+  joinsList joins splits = settled (joinsVerdict pl joins splits) (joinsOf pl) joins
+
+  unfoldable pub splitsList : List ℕ → List ℕ → List ℕ
+  splitsList joins splits = settled (joinsVerdict pl joins splits) (splitsOf pl) splits
 
 -- Those that take the spacings of its posts too, after the columns; to write a file, without a sheet.
 module _ (pl : Plot) (s : Spacings) where

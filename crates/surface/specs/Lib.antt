@@ -52,12 +52,13 @@ pub mod Calls
 pub mod Version
 pub mod Series
 pub mod Lister
--- OfCalls: what is proved of them. Demand: demand 3. Steepest: of next and lines. Sheets: of settings sheets. Grounds: of the ring call. FirstVersion: of survey
+-- OfCalls: what is proved of them. Demand: demand 3. Steepest: of next and lines. Sheets: of settings sheets. Grounds: of the ring call. Joins: of joins and splits. FirstVersion: of survey
 -- files of version 1. Then the example plots, files and sheets.
 pub mod Demand
 pub mod Steepest
 pub mod Sheets
 pub mod Grounds
+pub mod Joins
 pub mod FirstVersion
 pub mod Examples
 pub mod Starred

@@ -60,6 +60,13 @@ total-listOf g f zero = refl
 total-listOf g f (suc n) = omega (arith, total-append g (listOf f n) (f n ∷ []), total-listOf g f n)
 
 -- the members of a list made by `listOf`
+map-id : (l : List ℕ) → map (λ x. x) l ≡ l
+map-id [] = refl
+map-id (x ∷ l) = ap (λ (m : List ℕ). x ∷ m) (map-id l)
+
+pub total-sum : (f : ℕ → ℕ) (n : ℕ) → total (listOf f n) ≡ sum n f
+total-sum f n = ap total (sym (map-id (listOf f n))) ∙ total-listOf (λ x. x) f n
+
 pub member-listOf : (f : ℕ → ℕ) (n i w : ℕ) → i < n → f i ≡ w → List·Memᴰ w (listOf f n)
 unfolding listOf
 member-listOf f zero i w h e = absurd (omega arith)

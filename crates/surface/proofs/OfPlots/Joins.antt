@@ -11,7 +11,7 @@ use Rattle.surface.specs.Edges.{fallsIn, ringOf}
 use Rattle.surface.specs.Ways.{Way, EdgeOf}
 use Rattle.surface.specs.Marks.{markAt, multiplicity, marksOf, peaks, pits, saddles}
 use Rattle.surface.specs.Bodies.{inOneBody, BelowOf, neighboursOf, joinsAt, splitsAt, joinsOf, splitsOf}
-use Rattle.surface.proofs.General.ListOf.{total-listOf}
+use Rattle.surface.proofs.General.ListOf.{total-sum}
 use Rattle.surface.proofs.AnyOrder.Order.{directed-strict, rank-falls}
 use Rattle.surface.proofs.AnyOrder.Ways.{way-map}
 use Rattle.surface.proofs.AnyOrder.Bodies.{rank-lower, tells}
@@ -31,18 +31,18 @@ module _ (pl : Plot) (sides : Sides pl.rows pl.columns) where
         λ w. t .1 (way-map (λ v m. (m .0, rank-falls (directed up (below pl)) o (posts pl) v p (m .0) (m .1))) w),
       )
 
-  pub joins-total : total (map (λ x. x) (joinsOf pl)) + 1 ≡ pits (marksOf pl)
+  pub joins-total : total (joinsOf pl) + 1 ≡ pits (marksOf pl)
   unfolding joinsOf joinsAt marksOf markAt ringOf
-  joins-total = omega (arith, total-listOf (λ x. x) (joinsAt pl) (posts pl), joins-sum (any-network pl sides))
+  joins-total = omega (arith, total-sum (joinsAt pl) (posts pl), joins-sum (any-network pl sides))
 
-  pub splits-total : total (map (λ x. x) (splitsOf pl)) + 1 ≡ peaks (marksOf pl)
+  pub splits-total : total (splitsOf pl) + 1 ≡ peaks (marksOf pl)
   unfolding splitsOf splitsAt marksOf markAt ringOf
-  splits-total = omega (arith, total-listOf (λ x. x) (splitsAt pl) (posts pl), splits-sum (any-network pl sides))
+  splits-total = omega (arith, total-sum (splitsAt pl) (posts pl), splits-sum (any-network pl sides))
 
-  pub both-total : total (map (λ x. x) (joinsOf pl)) + total (map (λ x. x) (splitsOf pl)) ≡ saddles (marksOf pl)
+  pub both-total : total (joinsOf pl) + total (splitsOf pl) ≡ saddles (marksOf pl)
   unfolding joinsOf joinsAt splitsOf splitsAt marksOf markAt ringOf
   both-total =
-      omega (arith, total-listOf (λ x. x) (joinsAt pl) (posts pl), total-listOf (λ x. x) (splitsAt pl) (posts pl), both-sum (any-network pl sides))
+      omega (arith, total-sum (joinsAt pl) (posts pl), total-sum (splitsAt pl) (posts pl), both-sum (any-network pl sides))
 
   -- and so they are at every post
   pub post-joins-splits : (p : ℕ) → p < posts pl → joinsAt pl p + splitsAt pl p ≡ multiplicity (markAt pl p)
