@@ -24,8 +24,8 @@ fn several_at(patterns: &[u8], changes: &[u8], p: usize) -> usize
     (4 <= changes[patterns[p] as usize]) as usize
 }
 
-// The saddles of row r, as driven, put behind those that were found in the rows before it: how many there are then. Every post is stored, and counts where it
-// is a saddle: there is no branch, since no processor would foresee it.
+// The saddles of row r, as driven, put behind those that were found in the rows before it: how many there are then. Every post is stored, and counts where
+// it is a saddle: there is no branch, since no processor would foresee it.
 fn collect_row(
     grid: Grid,
     r: usize,
