@@ -1,4 +1,3 @@
--- The order that keys tell, posts picked as they are driven past, and both together.
+-- The order that heights and their digits tell, and saddles sorted by it.
 mod Counted
-mod Picking
 mod Sorting

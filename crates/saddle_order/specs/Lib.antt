@@ -1,4 +1,3 @@
 -- The saddles in order, and what the functions promise each other.
 pub mod Ascending
-pub mod Collected
 pub mod Keys

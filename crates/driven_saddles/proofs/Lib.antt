@@ -1,0 +1,2 @@
+-- Posts picked as they are driven past.
+mod Picking
