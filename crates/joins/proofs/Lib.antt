@@ -1,0 +1,2 @@
+-- Joins by patterns and splits.
+pub mod Patterned
