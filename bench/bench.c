@@ -39,6 +39,8 @@ typedef struct {
     sn_answer (*dales_and_hills)(const uint8_t *, size_t, uint32_t, uint32_t, uint32_t, uint32_t,
                                  const int32_t *, size_t, uint16_t *, size_t, uint16_t *,
                                  size_t);
+    sn_answer (*joins_and_splits)(const uint8_t *, size_t, uint32_t, uint32_t, const int32_t *,
+                                  size_t, uint8_t *, size_t, uint8_t *, size_t);
     sn_size (*read_survey)(const uint8_t *, size_t, int32_t *, size_t);
     sn_answer (*write_survey)(uint32_t, uint32_t, uint32_t, uint32_t, const int32_t *, size_t,
                               uint8_t *, size_t);
@@ -47,7 +49,8 @@ typedef struct {
 #define CALLS(prefix)                                                                 \
     {prefix##_settings, prefix##_survey, prefix##_reshoot, prefix##_ring,             \
      prefix##_next_down, prefix##_next_up, prefix##_thalweg, prefix##_ridge,          \
-     prefix##_dales_and_hills, prefix##_read_survey, prefix##_write_survey}
+     prefix##_dales_and_hills, prefix##_joins_and_splits, prefix##_read_survey,       \
+     prefix##_write_survey}
 
 enum { LIBRARY, SCALAR, VECTOR, BUILDS };
 static const calls builds[BUILDS] = {CALLS(sn), CALLS(scalar), CALLS(vector)};
@@ -116,11 +119,11 @@ static void fill(int32_t *heights, int side, int kind)
 
 /* Those before READ go by a rule, those from DALES_AND_HILLS to RIDGE by spacings too. */
 enum {
-    SURVEY, RESHOOT, RING, DALES_AND_HILLS, NEXT_DOWN, NEXT_UP, THALWEG, RIDGE, READ, READ_1, WRITE,
-    SETTINGS
+    SURVEY, RESHOOT, RING, JOINS_AND_SPLITS, DALES_AND_HILLS, NEXT_DOWN, NEXT_UP, THALWEG, RIDGE,
+    READ, READ_1, WRITE, SETTINGS
 };
 static const char *const call_names[SETTINGS + 1] = {
-    "survey", "re-shoot", "ring", "dales and hills", "next down", "next up",
+    "survey", "re-shoot", "ring", "joins and splits", "dales and hills", "next down", "next up",
     "thalweg", "ridge", "read", "read version 1", "write", "settings"
 };
 
@@ -147,7 +150,7 @@ enum { GAP = 512 };
 static uint32_t side, posts;
 static int32_t heights[SN_MAX_POSTS + GAP], held[SN_MAX_POSTS + GAP];
 static uint8_t marks[SN_MAX_POSTS + GAP], ring[SN_RING_LENGTH], file[SN_MAX_FILE + GAP];
-static uint8_t name[SN_MAX_NAME];
+static uint8_t joins[SN_MAX_POSTS + GAP], splits[SN_MAX_POSTS + GAP], name[SN_MAX_NAME];
 static uint16_t dales[SN_MAX_POSTS + GAP], hills[SN_MAX_POSTS + GAP], line[SN_MAX_LINE + GAP];
 
 /* The sum of an answer's numbers. */
@@ -204,6 +207,9 @@ static uint32_t once(int build, int way, int call, uint32_t turn)
     case RING:
         return of_ring_mark(b->ring(sheet, length, side, side, heights, n, p, ring,
                                     SN_RING_LENGTH));
+    case JOINS_AND_SPLITS:
+        return of_answer(b->joins_and_splits(sheet, length, side, side, heights, n, joins, n,
+                                             splits, n));
     case DALES_AND_HILLS:
         return of_answer(b->dales_and_hills(sheet, length, side, side, along_row, along_column,
                                             heights, n, dales, n, hills, n));
@@ -249,6 +255,8 @@ static uint64_t outcome(int build, int way, int call)
     memcpy(held, heights, sizeof held);
     memset(marks, 0, sizeof marks);
     memset(ring, 99, sizeof ring);
+    memset(joins, 99, sizeof joins);
+    memset(splits, 99, sizeof splits);
     memset(dales, 0, sizeof dales);
     memset(hills, 0, sizeof hills);
     memset(line, 0, sizeof line);
@@ -257,6 +265,8 @@ static uint64_t outcome(int build, int way, int call)
         sum = digest(sum * 31 + once(build, way, call, turn), ring, sizeof ring);
     sum = digest(sum, held, sizeof held);
     sum = digest(sum, marks, sizeof marks);
+    sum = digest(sum, joins, sizeof joins);
+    sum = digest(sum, splits, sizeof splits);
     sum = digest(sum, dales, sizeof dales);
     sum = digest(sum, hills, sizeof hills);
     sum = digest(sum, line, sizeof line);
@@ -456,17 +466,21 @@ static int by_plot(int way)
 static int by_size(int way)
 {
     static const uint32_t sides[4] = {15, 30, 60, 120};
+    static const int whole_plots[3] = {SURVEY, JOINS_AND_SPLITS, DALES_AND_HILLS};
     int agree = 1;
 
     heading(tables[way].by_size, "side", tables[way].last);
-    for (int call = tables[way].first; call <= DALES_AND_HILLS; call += DALES_AND_HILLS)
+    for (int c = 0; c < 3; c++) {
+        if (whole_plots[c] < tables[way].first)
+            continue;
         for (int kind = RANDOM; kind <= SPIRAL; kind += SPIRAL)
             for (int i = 0; i < 4; i++) {
                 char label[32];
                 snprintf(label, sizeof label, "%3u %s", (unsigned)sides[i],
                          kind_names[kind]);
-                agree &= row(way, label, sides[i], kind, call);
+                agree &= row(way, label, sides[i], kind, whole_plots[c]);
             }
+    }
     return agree;
 }
 

@@ -33,6 +33,9 @@
     sn_answer prefix##_dales_and_hills(                                        \
         const uint8_t *, size_t, uint32_t, uint32_t, uint32_t, uint32_t,       \
         const int32_t *, size_t, uint16_t *, size_t, uint16_t *, size_t);      \
+    sn_answer prefix##_joins_and_splits(const uint8_t *, size_t, uint32_t,     \
+                                        uint32_t, const int32_t *, size_t,     \
+                                        uint8_t *, size_t, uint8_t *, size_t); \
     sn_size prefix##_read_survey(const uint8_t *, size_t, int32_t *, size_t);  \
     sn_answer prefix##_write_survey(uint32_t, uint32_t, uint32_t, uint32_t,    \
                                     const int32_t *, size_t, uint8_t *,        \

@@ -71,10 +71,10 @@
 extern "C" {
 #endif
 
-/* Version of this header: three numbers, text, and one number, 40100 for 4.1.0. An
+/* Version of this header: three numbers, text, and one number, 40200 for 4.2.0. An
    installation takes it from the first three lines. That of the archive: sn_version. */
 #define SN_VERSION_MAJOR 4
-#define SN_VERSION_MINOR 1
+#define SN_VERSION_MINOR 2
 #define SN_VERSION_PATCH 0
 #define SN_VERSION \
     SN_TEXT(SN_VERSION_MAJOR) "." SN_TEXT(SN_VERSION_MINOR) "." SN_TEXT(SN_VERSION_PATCH)
@@ -507,6 +507,35 @@ sn_answer sn_dales_and_hills(const uint8_t *sheet, size_t sheet_length,
                              const int32_t *heights, size_t heights_length,
                              uint16_t *SN_RESTRICT dales, size_t dales_length,
                              uint16_t *SN_RESTRICT hills, size_t hills_length);
+
+/*
+ * Joins and splits: which ground each post joins. Take the posts below it together with
+ * the virtual pit: two of these lie in one body where a way along edges between these
+ * alone leads from one to the other. The post's joins are the bodies that its lower
+ * neighbours lie in, less one, or 0 if it has none. Its splits are the same over the
+ * posts above it and its upper neighbours; the virtual pit is never above.
+ *
+ * Of a saddle both together are its multiplicity (SN_MULTIPLICITY), of every other post
+ * both are 0. In a whole plot joins add up to the pits that a survey counts, less one,
+ * and splits to the peaks, less one; so both together to its saddles.
+ *
+ * Reads   sheet, and heights, rows * columns of them.
+ * Writes  joins and splits, as many each: every entry, 0 to 3.
+ * Answers SN_OK, or in this order
+ *   SN_BAD_SHEET
+ *   SN_BAD_ENTRY
+ *   SN_BAD_SIDES
+ *   SN_BAD_HEIGHTS_LENGTH
+ *   SN_BAD_LIST_LENGTH      joins or splits are not rows * columns
+ *   SN_HEIGHT_OUT_OF_RANGE  place: the first such post
+ * This call takes far more stack than the others: docs/C.md says how much.
+ */
+SN_USE_ANSWER SN_READS(1, 2) SN_READS(5, 6) SN_WRITES(7, 8) SN_WRITES(9, 10)
+sn_answer sn_joins_and_splits(const uint8_t *sheet, size_t sheet_length,
+                              uint32_t rows, uint32_t columns,
+                              const int32_t *heights, size_t heights_length,
+                              uint8_t *SN_RESTRICT joins, size_t joins_length,
+                              uint8_t *SN_RESTRICT splits, size_t splits_length);
 
 /*
  * A survey file, which sn_read_survey reads and sn_write_survey writes:

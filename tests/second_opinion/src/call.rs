@@ -17,11 +17,12 @@ pub enum Kind {
     Thalweg,
     Ridge,
     DalesAndHills,
+    JoinsAndSplits,
     ReadSurvey,
     WriteSurvey,
 }
 
-pub const KINDS: [Kind; 11] = [
+pub const KINDS: [Kind; 12] = [
     Kind::Settings,
     Kind::Survey,
     Kind::Reshoot,
@@ -31,6 +32,7 @@ pub const KINDS: [Kind; 11] = [
     Kind::Thalweg,
     Kind::Ridge,
     Kind::DalesAndHills,
+    Kind::JoinsAndSplits,
     Kind::ReadSurvey,
     Kind::WriteSurvey,
 ];
@@ -75,6 +77,8 @@ pub struct Call {
     pub line: Vec<u16>,
     pub dales: Vec<u16>,
     pub hills: Vec<u16>,
+    pub joins: Vec<u8>,
+    pub splits: Vec<u8>,
     pub file: Vec<u8>,
 }
 
@@ -82,7 +86,8 @@ impl Call {
     /// The answer by docs/SPECIFICATION.md; the lists become what the call must leave.
     pub fn by_opinion(&mut self) -> Vec<u32> {
         let Call { kind, rows, columns, spacings, post, height, run, .. } = *self;
-        let Call { sheet, name, heights, marks, ring, line, dales, hills, file, .. } = self;
+        let Call { sheet, name, heights, marks, ring, line, file, .. } = self;
+        let Call { dales, hills, joins, splits, .. } = self;
         let given = Given { sheet, rows, columns, heights };
         match kind {
             Kind::Settings => opinion::settings(sheet, name).to_vec(),
@@ -96,6 +101,7 @@ impl Call {
             Kind::Thalweg => opinion::line(Way::Down, given, spacings, post, run, line).to_vec(),
             Kind::Ridge => opinion::line(Way::Up, given, spacings, post, run, line).to_vec(),
             Kind::DalesAndHills => opinion::dales_and_hills(given, spacings, dales, hills).to_vec(),
+            Kind::JoinsAndSplits => opinion::joins_and_splits(given, joins, splits).to_vec(),
             Kind::ReadSurvey => opinion::read_survey(file, heights).to_vec(),
             Kind::WriteSurvey => {
                 opinion::write_survey(rows, columns, spacings, heights, file).to_vec()
@@ -114,6 +120,7 @@ impl Call {
                 Kind::NextDown | Kind::NextUp => false,
                 Kind::Thalweg | Kind::Ridge => self.line.is_empty(),
                 Kind::DalesAndHills => self.dales.is_empty() || self.hills.is_empty(),
+                Kind::JoinsAndSplits => self.joins.is_empty() || self.splits.is_empty(),
                 Kind::ReadSurvey | Kind::WriteSurvey => self.file.is_empty(),
             }
     }
@@ -140,6 +147,8 @@ impl Call {
             + &first("line", &self.line, &other.line)
             + &first("dales", &self.dales, &other.dales)
             + &first("hills", &self.hills, &other.hills)
+            + &first("joins", &self.joins, &other.joins)
+            + &first("splits", &self.splits, &other.splits)
             + &first("file", &self.file, &other.file)
     }
 }
@@ -151,7 +160,7 @@ impl fmt::Display for Call {
             f,
             "{:?}, rows {}, columns {}, along row {}, along column {}, post {}, height {}, run {}; \
              lengths: sheet {}, name {}, heights {}, marks {}, ring {}, line {}, dales {}, \
-             hills {}, file {}",
+             hills {}, joins {}, splits {}, file {}",
             self.kind,
             self.rows,
             self.columns,
@@ -168,6 +177,8 @@ impl fmt::Display for Call {
             self.line.len(),
             self.dales.len(),
             self.hills.len(),
+            self.joins.len(),
+            self.splits.len(),
             self.file.len()
         )?;
         let width = (self.columns as usize).clamp(1, 120);

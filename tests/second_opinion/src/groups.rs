@@ -1,6 +1,7 @@
 //! What is tried.
 
 mod bench_plots;
+mod bodies;
 mod bounds;
 mod files;
 pub mod lister;
@@ -22,6 +23,7 @@ pub fn all(t: &mut Tester, chance: &mut Chance, long: bool) {
     let times = if long { 20 } else { 1 };
     ties::ties(t);
     bench_plots::bench_plots(t);
+    bodies::as_drawn(t);
     refusals::refusals(t, chance, 12 * times);
     refusals::ring_lists(t, chance);
     bounds::sides(t, chance);
@@ -38,6 +40,7 @@ pub fn all(t: &mut Tester, chance: &mut Chance, long: bool) {
     files::every_damage(t);
     files::damaged_by_chance(t, chance, 3000 * times);
     slopes::all(t, chance, times);
+    bodies::all(t, chance, times);
     series::never_surveyed(t, chance, 2000 * times);
     whole_plots::small_random(t, chance, 4000 * times);
     series::series(t, chance, times);
@@ -83,6 +86,10 @@ fn good(kind: Kind, plot: &Plot, chance: &mut Chance) -> Call {
         Kind::DalesAndHills => {
             call.dales = chance.shorts(posts);
             call.hills = chance.shorts(posts);
+        }
+        Kind::JoinsAndSplits => {
+            call.joins = chance.bytes(posts);
+            call.splits = chance.bytes(posts);
         }
         Kind::ReadSurvey => return files::filed(plot, chance),
         Kind::WriteSurvey => call.file = chance.bytes(11 + 4 * posts),

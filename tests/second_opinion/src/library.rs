@@ -120,6 +120,18 @@ extern "C" {
         hills: *mut u16,
         pn: usize,
     ) -> Answer;
+    fn sn_joins_and_splits(
+        sheet: *const u8,
+        sn: usize,
+        rows: u32,
+        columns: u32,
+        h: *const i32,
+        hn: usize,
+        joins: *mut u8,
+        jn: usize,
+        splits: *mut u8,
+        kn: usize,
+    ) -> Answer;
     fn sn_read_survey(file: *const u8, bytes: usize, h: *mut i32, hn: usize) -> Size;
     fn sn_write_survey(
         rows: u32,
@@ -207,18 +219,21 @@ struct Lent {
     line: *mut u16,
     dales: *mut u16,
     hills: *mut u16,
+    joins: *mut u8,
+    splits: *mut u8,
     file: *mut u8,
 }
 
 /// The answer of the C call, which finds its lists there.
 unsafe fn answer(call: &Call, lent: &Lent) -> Vec<u32> {
-    let Lent { sheet, name, heights, marks, ring, line, dales, hills, file } = *lent;
+    let Lent { sheet, name, heights, marks, ring, line, dales, hills, joins, splits, file } = *lent;
     let (r, c, p, run) = (call.rows, call.columns, call.post, call.run);
     let (s, sn, nn) = (sheet.cast_const(), call.sheet.len(), call.name.len());
     let Spacings { along_row: ar, along_column: ac } = call.spacings;
     let (h, hn) = (heights.cast_const(), call.heights.len());
     let (mn, rn, ln) = (call.marks.len(), call.ring.len(), call.line.len());
     let (dn, pn, fl) = (call.dales.len(), call.hills.len(), call.file.len());
+    let (jn, kn) = (call.joins.len(), call.splits.len());
     match call.kind {
         Kind::Settings => sn_settings(s, sn, name, nn).0.to_vec(),
         Kind::Survey => sn_survey(s, sn, r, c, h, hn, marks, mn).0.to_vec(),
@@ -231,13 +246,16 @@ unsafe fn answer(call: &Call, lent: &Lent) -> Vec<u32> {
         Kind::DalesAndHills => {
             sn_dales_and_hills(s, sn, r, c, ar, ac, h, hn, dales, dn, hills, pn).0.to_vec()
         }
+        Kind::JoinsAndSplits => {
+            sn_joins_and_splits(s, sn, r, c, h, hn, joins, jn, splits, kn).0.to_vec()
+        }
         Kind::ReadSurvey => sn_read_survey(file, fl, heights, hn).0.to_vec(),
         Kind::WriteSurvey => sn_write_survey(r, c, ar, ac, h, hn, file, fl).0.to_vec(),
     }
 }
 
 pub struct Library {
-    memory: [Guarded; 9],
+    memory: [Guarded; 11],
 }
 
 impl Library {
@@ -247,7 +265,7 @@ impl Library {
 
     /// The library's answer; the lists become what it left.
     pub fn run(&self, call: &mut Call, edge: Edge) -> Vec<u32> {
-        let [m0, m1, m2, m3, m4, m5, m6, m7, m8] = &self.memory;
+        let [m0, m1, m2, m3, m4, m5, m6, m7, m8, m9, m10] = &self.memory;
         let lent = Lent {
             sheet: m0.lend(&call.sheet, edge),
             name: m1.lend(&call.name, edge),
@@ -257,7 +275,9 @@ impl Library {
             line: m5.lend(&call.line, edge),
             dales: m6.lend(&call.dales, edge),
             hills: m7.lend(&call.hills, edge),
-            file: m8.lend(&call.file, edge),
+            joins: m8.lend(&call.joins, edge),
+            splits: m9.lend(&call.splits, edge),
+            file: m10.lend(&call.file, edge),
         };
         let answer = unsafe { answer(call, &lent) };
         m0.give_back(&mut call.sheet, lent.sheet);
@@ -268,7 +288,9 @@ impl Library {
         m5.give_back(&mut call.line, lent.line);
         m6.give_back(&mut call.dales, lent.dales);
         m7.give_back(&mut call.hills, lent.hills);
-        m8.give_back(&mut call.file, lent.file);
+        m8.give_back(&mut call.joins, lent.joins);
+        m9.give_back(&mut call.splits, lent.splits);
+        m10.give_back(&mut call.file, lent.file);
         answer
     }
 }

@@ -13,6 +13,7 @@
 //! Prints `N passed, M failed` last; a case is one plot, one call that is
 //! refused or at a bound, one series, one sheet or one file.
 
+mod bodies;
 mod call;
 mod groups;
 mod library;

@@ -1,6 +1,7 @@
 //! Every call as docs/SPECIFICATION.md tells it: the refusals, then the answer. A
 //! list is handed in as lent and comes back as the call must leave it.
 
+use crate::bodies;
 use crate::sheet;
 use crate::surface::{counts, Plot, Rule, Spacings, Way, VIRTUAL_PIT};
 
@@ -225,6 +226,19 @@ pub fn dales_and_hills(
                 *entry = end as u16;
             }
         }
+        Ok(vec![])
+    })())
+}
+
+pub fn joins_and_splits(given: Given, joins: &mut [u8], splits: &mut [u8]) -> [u32; 2] {
+    answer((|| {
+        let plot = given.plot()?;
+        row_3(joins.len(), plot.posts())?;
+        row_3(splits.len(), plot.posts())?;
+        row_4(plot.heights, HEIGHT)?;
+        let told = bodies::joins_and_splits(&plot);
+        joins.copy_from_slice(&told[0]);
+        splits.copy_from_slice(&told[1]);
         Ok(vec![])
     })())
 }

@@ -106,13 +106,18 @@ impl Tester {
         FAILED.load(Relaxed) == 0 && PASSED.load(Relaxed) > 0
     }
 
+    /// Is the library asked for calls of this kind?
+    pub fn asks(&self, kind: Kind) -> bool {
+        self.only.is_none_or(|only| only == kind)
+    }
+
     /// The answer and the lists afterwards, where the library and the second
     /// opinion agree on them, wherever the lists lie, and by another sheet that
     /// means the same rule.
     pub fn agree(&self, call: &Call) -> Result<(Vec<u32>, Call), String> {
         let mut expected = call.clone();
         let answer = expected.by_opinion();
-        if self.only.is_some_and(|only| only != call.kind) {
+        if !self.asks(call.kind) {
             return Ok((answer, expected));
         }
         for edge in [Edge::Start, Edge::End, Edge::Null] {

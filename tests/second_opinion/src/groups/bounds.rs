@@ -61,6 +61,8 @@ fn flat(kind: Kind, rule: Rule, rows: u32, columns: u32, chance: &mut Chance) ->
     call.marks.truncate(posts);
     call.dales.truncate(posts);
     call.hills.truncate(posts);
+    call.joins.truncate(posts);
+    call.splits.truncate(posts);
     call
 }
 
@@ -220,6 +222,10 @@ fn with_lengths(base: Call) -> Vec<Call> {
         Kind::DalesAndHills => {
             let calls = resized(calls, 9, |call| &mut call.dales);
             resized(calls, 9, |call| &mut call.hills)
+        }
+        Kind::JoinsAndSplits => {
+            let calls = resized(calls, 9, |call| &mut call.joins);
+            resized(calls, 9, |call| &mut call.splits)
         }
         _ => calls,
     }

@@ -16,7 +16,7 @@ const SHORT_2: u32 = 210;
 fn table(kind: Kind) -> &'static [u32] {
     match kind {
         Kind::Settings => &[13, 14, 3],
-        Kind::Survey => &[13, 14, 1, 2, 3, 4],
+        Kind::Survey | Kind::JoinsAndSplits => &[13, 14, 1, 2, 3, 4],
         Kind::DalesAndHills => &[13, 14, 1, 15, 2, 3, 4],
         Kind::Reshoot => &[13, 14, 1, 2, 3, 4, 5, 6],
         Kind::Ring => &[13, 14, 1, 2, 3, 4, 5],
@@ -124,14 +124,19 @@ fn spoil_lists(call: &mut Call, chance: &mut Chance) {
         Kind::Ring => resize(&mut call.ring, chance),
         Kind::WriteSurvey => resize(&mut call.file, chance),
         Kind::ReadSurvey => resize(&mut call.heights, chance),
-        _ => match chance.below(3) {
-            0 => resize(&mut call.dales, chance),
-            1 => resize(&mut call.hills, chance),
-            _ => {
-                resize(&mut call.dales, chance);
-                resize(&mut call.hills, chance);
-            }
-        },
+        Kind::JoinsAndSplits => resize_some(&mut call.joins, &mut call.splits, chance),
+        _ => resize_some(&mut call.dales, &mut call.hills, chance),
+    }
+}
+
+/// Resizes one of two lists, or both.
+fn resize_some<T: Copy + Default>(one: &mut Vec<T>, other: &mut Vec<T>, chance: &mut Chance) {
+    let which = chance.below(3);
+    if which != 1 {
+        resize(one, chance);
+    }
+    if which != 0 {
+        resize(other, chance);
     }
 }
 

@@ -34,7 +34,7 @@ fn on_star(kind: Kind, sheet: &[u8], chance: &mut Chance) -> Call {
     let star = Plot { rule: DEFAULT_RULE, rows: 3, columns: 3, heights };
     let mut call = Call { sheet: sheet.to_vec(), ..good(kind, &star, chance) };
     match kind {
-        Kind::Survey | Kind::DalesAndHills => {}
+        Kind::Survey | Kind::DalesAndHills | Kind::JoinsAndSplits => {}
         Kind::Reshoot => (call.post, call.height) = (4, 1),
         Kind::NextUp => call.post = 1,
         _ => call.post = 4,

@@ -1,6 +1,7 @@
 //! Level ground, where the drive decides: plots as drawn by hand, by both rules. Each wrong
 //! order of equal heights, in all uses or in one, is told by some of them.
 
+use super::bodies::{drawn, Drawn};
 use crate::call::{Call, Kind};
 use crate::sheet::sheet_of;
 use crate::surface::{Plot, Spacings, RULES, VIRTUAL_PIT};
@@ -590,6 +591,93 @@ const STATED: [Stated; 22] = [
     },
 ];
 
+/// Of two passes of one height through a ridge in the shape of a ring the one that is driven first
+/// joins what is inside to what is outside; then that is one body, and the other pass joins
+/// high ground. In an even row the western pass is driven first.
+const EVEN_PASSES: Drawn = Drawn {
+    heights: "
+        0 1 2 1 0
+        1 9 9 9 1
+        2 5 3 5 2
+        1 9 9 9 1
+        0 1 2 1 0",
+    by_rule: [
+        ["00000 00000 01000 00000 00000", "00000 00000 00010 00000 00000"],
+        ["00000 00000 01000 00000 00000", "00000 00000 00010 00000 00000"],
+    ],
+};
+
+/// In an odd row the eastern one.
+const ODD_PASSES: Drawn = Drawn {
+    heights: "
+        0 1 2 1 0
+        1 2 3 2 1
+        1 9 9 9 1
+        2 6 4 6 2
+        1 9 9 9 1
+        0 1 2 1 0",
+    by_rule: [
+        ["00000 00000 00000 00010 00000 00000", "00000 00000 00000 01000 00000 00000"],
+        ["00000 00000 00000 00010 00000 00000", "00000 00000 00000 01000 00000 00000"],
+    ],
+};
+
+/// Of passes in two rows the northern one, whatever their columns.
+const NORTH_BEFORE_WEST: Drawn = Drawn {
+    heights: "
+        0 1 2 1 0
+        1 9 5 9 1
+        2 5 3 8 2
+        1 9 8 9 1
+        0 1 2 1 0",
+    by_rule: [
+        ["00000 00100 00000 00000 00000", "00000 00000 01010 00100 00000"],
+        ["00000 00100 00000 00000 00000", "00000 00000 01010 00100 00000"],
+    ],
+};
+
+const EAST_BEFORE_SOUTH: Drawn = Drawn {
+    heights: "
+        0 1 2 1 0
+        1 9 8 9 1
+        2 8 3 5 2
+        1 9 5 9 1
+        0 1 2 1 0",
+    by_rule: [
+        ["00000 00000 00010 00000 00000", "00000 00100 01000 00100 00000"],
+        ["00000 00000 00010 00000 00000", "00000 00100 01000 00100 00000"],
+    ],
+};
+
+/// Two hollows in a rim of one height: each is joined to what is outside where the rim is driven
+/// first beside it.
+const LEVEL_RIM: Drawn = Drawn {
+    heights: "
+        4 4 4 4 4
+        4 1 4 1 4
+        4 4 4 4 4",
+    by_rule: [
+        ["10100 00000 00000", "00000 00000 00000"],
+        ["01010 00000 00000", "00000 00000 00000"],
+    ],
+};
+
+/// Two tops on level ground, which joins them where it is driven last beside them.
+const LEVEL_TOPS: Drawn = Drawn {
+    heights: "
+        1 1 1 1 1
+        1 1 1 1 1
+        1 4 1 4 1
+        1 1 1 1 1",
+    by_rule: [
+        ["00000 00000 00000 00000", "00000 00000 00000 01010"],
+        ["00000 00000 00000 00000", "00000 00000 00000 00100"],
+    ],
+};
+
+const BODIES: [Drawn; 6] =
+    [EVEN_PASSES, ODD_PASSES, NORTH_BEFORE_WEST, EAST_BEFORE_SOUTH, LEVEL_RIM, LEVEL_TOPS];
+
 pub fn ties(t: &mut Tester) {
     t.group("ties as driven");
     for stated in &STATED {
@@ -601,6 +689,7 @@ pub fn ties(t: &mut Tester) {
         lines(t, stated);
         parting(t, stated);
     }
+    drawn(t, &BODIES);
 }
 
 impl Stated {

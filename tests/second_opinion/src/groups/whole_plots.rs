@@ -4,14 +4,21 @@ use super::{good, WAYS};
 use crate::call::{Call, Kind};
 use crate::opinion::in_one_piece;
 use crate::plots::{any_plot, any_spacings, ground, Chance, GROUNDS};
-use crate::surface::{by_changes, Plot, Rule, Spacings, Way, RULES, VIRTUAL_PIT};
+use crate::surface::{by_changes, counts, Plot, Rule, Spacings, Way, RULES, VIRTUAL_PIT};
 use crate::tester::{law, Outcome, Tester};
 
 /// Everything about one plot, by any spacings. Of a plot with more than `most` posts only
-/// so many, by chance, are asked for their rings, their next posts and their lines.
+/// so many, by chance, are asked for their rings, their next posts and their lines. Joins and
+/// splits of a plot with more than 1,000 posts are asked for by the call after this one.
 pub fn whole_plot(t: &Tester, plot: &Plot, most: usize, chance: &mut Chance) -> Outcome {
     let spacings = any_spacings(chance);
     by_each(t, plot, &[spacings], most, chance)
+}
+
+/// The joins and splits of a plot beside its survey.
+pub fn joins_and_splits(t: &Tester, plot: &Plot, chance: &mut Chance) -> Outcome {
+    let marks = survey(t, plot, chance)?;
+    bodies(t, plot, &marks, chance)
 }
 
 /// Everything about one plot, by each of these spacings.
@@ -26,6 +33,9 @@ pub fn by_each(
     let marks = survey(t, plot, chance)?;
     let asked = if posts > most { chance.some(most, posts) } else { (0..posts).collect() };
     rings(t, plot, &marks, &asked, chance)?;
+    if posts <= 1000 && t.asks(Kind::JoinsAndSplits) {
+        bodies(t, plot, &marks, chance)?;
+    }
     all.iter().try_for_each(|&spacings| spaced(t, plot, spacings, &marks, &asked, chance))
 }
 
@@ -85,6 +95,23 @@ fn rings(t: &Tester, plot: &Plot, marks: &[u8], asked: &[usize], chance: &mut Ch
     }
     let all = asked.len() == plot.posts();
     law(!all || from_both_ends(plot, seen), "every edge is seen from both its ends", &call)
+}
+
+/// The joins and splits: none where there is no saddle, and of a saddle as many of both as its
+/// mark says. They make one less than the pits, and one less than the peaks.
+fn bodies(t: &Tester, plot: &Plot, marks: &[u8], chance: &mut Chance) -> Outcome {
+    let call = good(Kind::JoinsAndSplits, plot, chance);
+    let (answer, left) = t.agree(&call)?;
+    law(answer[0] == 0, "joins and splits are accepted", &call)?;
+    let both = left.joins.iter().zip(&left.splits).map(|(joins, splits)| joins + splits);
+    let told = marks.iter().map(|mark| mark.saturating_sub(2));
+    law(both.eq(told), "joins and splits of a post are its multiplicity", &call)?;
+    let sum = |list: &[u8]| list.iter().map(|&entry| entry as u32).sum::<u32>();
+    let [peaks, pits, saddles] = counts(marks);
+    let (joins, splits) = (sum(&left.joins), sum(&left.splits));
+    law(joins == pits - 1, "the joins make one less than the pits", &call)?;
+    law(splits == peaks - 1, "the splits make one less than the peaks", &call)?;
+    law(joins + splits == saddles, "both make the saddles", &call)
 }
 
 /// How often each code is seen in a whole plot: an edge between posts once as above and
@@ -252,6 +279,10 @@ pub fn large_random(t: &mut Tester, chance: &mut Chance, times: usize) {
                 let heights = ground(kind, rows, columns, chance);
                 let plot = Plot { rule: RULES[i % 2], rows, columns, heights: &heights };
                 t.case(whole_plot(t, &plot, 30, chance));
+                // These take long.
+                if i < times / 3 && t.asks(Kind::JoinsAndSplits) {
+                    t.case(joins_and_splits(t, &plot, chance));
+                }
             }
         }
     }
