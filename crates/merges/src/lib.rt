@@ -51,7 +51,10 @@ fn join(heights: &[i32], grid: Grid, list: &mut [u16], body: Body, q: usize) -> 
         return body;
     }
     let end = link(heights, grid, list, body.end, other);
-    Body { end, splits: body.splits + 1 }
+    Body {
+        end,
+        splits: body.splits + 1,
+    }
 }
 
 // Makes one body of those of the posts where the upper runs of saddle p start: how many more than one there were.

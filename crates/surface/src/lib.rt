@@ -3,7 +3,7 @@
 // The version of the library, which sn_version and the lister tell. The header has it too, and the tests hold the two to each other.
 pub const VERSION_MAJOR: u32 = 4;
 
-pub const VERSION_MINOR: u32 = 1;
+pub const VERSION_MINOR: u32 = 2;
 
 pub const VERSION_PATCH: u32 = 0;
 

@@ -13,7 +13,7 @@ use surface::VERSION_PATCH;
 ghost use mathlib.Core.Path.{_≡_};
 ghost use Rattle.surface.specs.Plot.{plot};
 ghost use Rattle.surface.specs.Spacings.{spacings};
-ghost use Rattle.surface.specs.Calls.{plotBy, settingsAnswer, settingsName, surveyAnswer, surveyMarks, reshootAnswer, reshootHeights, reshootMarks, ringAnswer, ringList, nextDownAnswer, nextUpAnswer, thalwegAnswer, thalwegList, ridgeAnswer, ridgeList, partsAnswer, partsDales, partsHills, readAnswer, readHeights, writeAnswer, writeFile};
+ghost use Rattle.surface.specs.Calls.{plotBy, settingsAnswer, settingsName, surveyAnswer, surveyMarks, reshootAnswer, reshootHeights, reshootMarks, ringAnswer, ringList, nextDownAnswer, nextUpAnswer, thalwegAnswer, thalwegList, ridgeAnswer, ridgeList, partsAnswer, partsDales, partsHills, joinsAnswer, joinsList, splitsList, readAnswer, readHeights, writeAnswer, writeFile};
 ghost use Rattle.surface.specs.Version.{version};
 
 #[no_mangle]
@@ -159,6 +159,22 @@ pub extern "C" fn sn_dales_and_hills(
     ensures { λ _. ⌜ now (hills .exit) ≡ partsHills (plotBy (now (sheet .entry)) rows columns (now (heights .entry))) (spacings east south) (now (dales .entry)) (now (hills .entry)) ⌝ }
 {
     parts::dales_and_hills(sheet, rows, columns, east, south, heights, dales, hills)
+}
+
+#[no_mangle]
+pub extern "C" fn sn_joins_and_splits(
+    sheet: &[u8],
+    rows: u32,
+    columns: u32,
+    heights: &[i32],
+    joins: &mut [u8],
+    splits: &mut [u8],
+) -> Answer
+    ensures { λ r. ⌜ r ≡ joinsAnswer (plotBy (now (sheet .entry)) rows columns (now (heights .entry))) (now (joins .entry)) (now (splits .entry)) ⌝ }
+    ensures { λ _. ⌜ now (joins .exit) ≡ joinsList (plotBy (now (sheet .entry)) rows columns (now (heights .entry))) (now (joins .entry)) (now (splits .entry)) ⌝ }
+    ensures { λ _. ⌜ now (splits .exit) ≡ splitsList (plotBy (now (sheet .entry)) rows columns (now (heights .entry))) (now (joins .entry)) (now (splits .entry)) ⌝ }
+{
+    joins::joins_and_splits(sheet, rows, columns, heights, joins, splits)
 }
 
 #[no_mangle]
