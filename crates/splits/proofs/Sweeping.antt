@@ -273,3 +273,9 @@ module _ (pl : Plot) (valid : Valid pl) where
   leads-are {patterns} e =
       rw (ap length e ∙ length-listOf (patternAt pl) (posts pl))
       (listOf-ext _ (leadAt pl) (posts pl) (λ p h. ap (λ (b : ℕ). postAt pl.columns p (firstStart b)) (rw e (getD-listOf (patternAt pl) (posts pl) p 0 h))))
+
+  -- where there is no saddle, nothing splits
+  pub swept-none : {sorted splits : List ℕ} {m : ℕ} → m ≡ 0 → Ascending pl sorted m → splits ≡ listOf (λ _. 0) (posts pl) → splits ≡ splitsOf pl
+  unfolding splitsOf
+  swept-none {sorted} {splits} none a e =
+      e ∙ listOf-ext (λ _. 0) (splitsAt pl) (posts pl) (λ p h. sym (no-splits p h (λ t. omega (arith, a .all p h t .1 .0))))

@@ -1,4 +1,4 @@
--- The two lists are as long as the heights.
+-- The lists for the work are as long as the heights.
 use Prim.Native.Nat.{ℕ, _≤_}
 use native.Mathlib.Omega.{arith}
 use mathlib.Core.Path.{_≡_, sym, _∙_}
@@ -17,12 +17,12 @@ few s = omega (arith, s .pre .0 .size, s .pre .0 .sides .few)
 
 sort-and-sweep-requires : tie.Need-sort-and-sweep-requires
 sort-and-sweep-requires c κs =
-    let s = c .before .before .before .before .before in
+    let s = c .before .before .before .before .before .before in
     let e = part 14400 (length (s .args .heights .now)) (few s) ∙ s .pre .0 .size in
-    ((s .pre .0, s .pre .1), (e, e, s .pre .2))
+    (s .pre, (e, e, e))
 
 pub fill-splits-spec : {M : Type 1} → statement M
 fill-splits-spec =
     tie.close
     (tie.spec (λ c. search needs) (λ c. sym (part 14400 _ (few (c .before .before .before)))) (λ c. search needs) (λ c. sym (part 14400 _ (few (c .before .before .before .before))))
-    sort-and-sweep-requires (λ c. search needs) (λ c. search needs))
+    (λ c. search needs) (λ c. sym (part 14400 _ (few (c .before .before .before .before .before)))) sort-and-sweep-requires (λ c. search needs) (λ c. search needs))
