@@ -1,10 +1,11 @@
 -- The lower of two ends is led to the higher one.
-use Prim.Native.Nat.{_<_}
+use Prim.Native.Nat.{_*_, _<_}
 use native.Mathlib.Omega.{arith}
 use mathlib.Core.Path.{sym, _∙_, ap}
 use mathlib.Core.Logic.{inl}
 use mathlib.Core.Bool.{not}
 use lib.ListN.{length}
+use Rattle.surface.specs.Plot.{Vertex}
 use Rattle.surface.proofs.OfPlots.HeightOrder.{below-strict}
 use Rattle.merges.proofs.Forest.{linked, linked-back}
 use borrow.Author.Needs.{needs}
@@ -12,7 +13,12 @@ use Rattle.merges.proofs.link.Statement.{statement}
 use Rattle.merges.proofs.link.Tie as tie
 
 is-below-requires : tie.Need-is-below-requires
-is-below-requires c κs = let h = c .before .pre in (h .0 .valid, inl (h .1 .post), inl (h .2 .post))
+is-below-requires c κs =
+    let h = c .before .pre in
+    let v = h .0 .valid in
+    let a : Vertex (c .before .args .grid .rows * c .before .args .grid .columns) (c .before .args .a) = inl (h .1 .post) in
+    let b : Vertex (c .before .args .grid .rows * c .before .args .grid .columns) (c .before .args .b) = inl (h .2 .post) in
+    search needs
 
 returns : tie.Need-returns
 returns c = let h = c .before .before .before .pre in linked-back (linked (h .0) _ _ (h .2) (h .1) (sym (c .before .is-below .ensures) ∙ c .if1 .taken))
