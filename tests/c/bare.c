@@ -29,7 +29,7 @@ void *memset(void *to, int byte, size_t bytes)
 static int wrong(void)
 {
     static const int32_t star[9] = {0, 2, 0, 2, 1, 2, 0, 2, 0};
-    static uint8_t marks[9], name[SN_MAX_NAME], file[SN_FILE_SIZE(3, 3)];
+    static uint8_t marks[9], joins[9], splits[9], name[SN_MAX_NAME], file[SN_FILE_SIZE(3, 3)];
     static uint16_t dales[9], hills[9];
     static int32_t heights[9];
     sn_counts counts = sn_survey(SN_NO_SHEET, 3, 3, star, 9, marks, 9);
@@ -39,6 +39,8 @@ static int wrong(void)
         sn_settings(SN_NO_SHEET, name, SN_MAX_NAME).code != SN_OK ||
         sn_dales_and_hills(SN_NO_SHEET, 3, 3, 100, 100, star, 9, dales, 9, hills, 9).code ||
         dales[4] != 4 || hills[4] != 7 ||
+        sn_joins_and_splits(SN_NO_SHEET, 3, 3, star, 9, joins, 9, splits, 9).code != SN_OK ||
+        joins[1] != 1 || splits[1] != 0 ||
         sn_write_survey(3, 3, 100, 100, star, 9, file, sizeof file).code != SN_OK ||
         sn_read_survey(file, sizeof file, heights, 9).code != SN_OK || heights[7] != 2;
 }

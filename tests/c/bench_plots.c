@@ -2,8 +2,8 @@
  * "Example plots" of docs/SPECIFICATION.md through the C calls, by both rules, settings
  * sheets, spacings and survey files. Compiles as C99 and as C++. Every list is its own
  * piece of the heap, exactly as long as lent, so that a memory checker sees a byte too
- * many; a ring's and a name's lie between guards, which are looked at, so that they need
- * no checker.
+ * many; a ring's, a name's, joins and splits lie between guards, which are looked at, so
+ * that they need no checker.
  */
 #include "surface_network.h"
 
@@ -640,7 +640,7 @@ static void sides(void)
             size_t n = (size_t)rows * columns;
             int good = i % 3 != 0 && j % 3 != 0;
             int32_t *heights = (int32_t *)lent(n * sizeof *heights, NULL);
-            uint8_t *marks = (uint8_t *)lent(n, NULL);
+            uint8_t *marks = (uint8_t *)lent(n, NULL), *others = (uint8_t *)lent(n, NULL);
             sn_counts got = sn_survey(SN_NO_SHEET, rows, columns, heights, n, marks, n);
             sn_answer shot = sn_reshoot(SN_NO_SHEET, rows, columns, heights, n, marks, n, 0, 1);
             uint8_t list[SN_RING_LENGTH];
@@ -651,8 +651,11 @@ static void sides(void)
             check(got.peaks + got.pits == (good ? got.saddles + 2 : 0), "balance");
             check(shot.code == got.code && heights[0] == (good ? 1 : 0), "re-shoot");
             check(last.code == got.code && last.mark == (good ? marks[n - 1] : 0), "ring");
+            check(sn_joins_and_splits(SN_NO_SHEET, rows, columns, heights, n, marks, n, others,
+                                      n).code == got.code, "joins and splits");
             free(heights);
             free(marks);
+            free(others);
         }
 }
 
@@ -672,6 +675,107 @@ static void parts(const plot *p, const sheet *s)
     free(bytes);
     free(dales);
     free(hills);
+}
+
+/* A plot's joins and splits, a digit for each post. */
+typedef struct {
+    const char *name;
+    uint32_t rule, rows, columns;
+    int32_t heights[25];
+    const char *joins, *splits;
+} joined;
+
+enum { JOINED = 14 };
+
+/* The middle of star joins four tops by rule 1; by rule 2 it is a pit, which post 1 joins to what
+   is outside, as it does in hollow. A crater's ridge goes round its middle: each of its passes
+   has two lower runs, but only at the lowest are they two bodies, since the ground below another
+   goes round by that one. By rule 2 the middle of wells joins four pits; in ditch two of these
+   are open to the border, so that the virtual pit joins them, and the ditch parts the high
+   ground. Passes of one height are driven east before west in an odd row, and west before east in
+   an even one. */
+static const joined joined_plots[JOINED] = {
+    {"flat, joins and splits", 1, 2, 2, {0, 0, 0, 0}, "0000", "0000"},
+    {"crossed, joins and splits", 1, 2, 2, {5, 0, 0, 5}, "0000", "0010"},
+    {"crossed, rule 2, joins and splits", 2, 2, 2, {5, 0, 0, 5}, "0000", "0000"},
+    {"star, joins and splits", 1, 3, 3, {0, 2, 0, 2, 1, 2, 0, 2, 0}, "000000000", "000030000"},
+    {"star, rule 2, joins and splits", 2, 3, 3, {0, 2, 0, 2, 1, 2, 0, 2, 0},
+     "010000000", "000000000"},
+    {"hollow, joins and splits", 1, 3, 3, {1, 1, 1, 1, 0, 1, 1, 1, 1}, "100000000", "000000000"},
+    {"hollow, rule 2, joins and splits", 2, 3, 3, {1, 1, 1, 1, 0, 1, 1, 1, 1},
+     "010000000", "000000000"},
+    {"crater", 1, 5, 5,
+     {0, 1, 2, 1, 0, 1, 9, 7, 9, 1, 2, 8, 3, 8, 2, 1, 9, 5, 9, 1, 0, 1, 2, 1, 0},
+     "0000000000000000010000000", "0000000100010100000000000"},
+    {"crater, rule 2", 2, 5, 5,
+     {0, 1, 2, 1, 0, 1, 9, 7, 9, 1, 2, 8, 3, 8, 2, 1, 9, 5, 9, 1, 0, 1, 2, 1, 0},
+     "0000000000000000010000000", "0000000100010100000000000"},
+    {"wells, rule 2", 2, 5, 5,
+     {9, 9, 9, 9, 9, 9, 8, 1, 8, 9, 9, 1, 5, 1, 9, 9, 8, 1, 8, 9, 9, 9, 9, 9, 9},
+     "0100000000003000000000000", "0000000000000000000000000"},
+    {"ditch", 1, 5, 5,
+     {9, 9, 0, 9, 9, 9, 8, 1, 8, 9, 9, 1, 5, 1, 9, 9, 8, 1, 8, 9, 9, 9, 0, 9, 9},
+     "0000000000000000000000000", "1000000000000000020000000"},
+    {"ditch, rule 2", 2, 5, 5,
+     {9, 9, 0, 9, 9, 9, 8, 1, 8, 9, 9, 1, 5, 1, 9, 9, 8, 1, 8, 9, 9, 9, 0, 9, 9},
+     "0000000000002000000000000", "0000000000001000000000000"},
+    {"passes in an odd row", 2, 3, 5, {1, 9, 9, 9, 1, 2, 6, 4, 6, 2, 1, 9, 9, 9, 1},
+     "000000001000000", "000000100000000"},
+    {"passes in an even row", 2, 5, 5,
+     {0, 1, 2, 1, 0, 1, 9, 9, 9, 1, 2, 5, 3, 5, 2, 1, 9, 9, 9, 1, 0, 1, 2, 1, 0},
+     "0000000000010000000000000", "0000000000000100000000000"}
+};
+
+/* Into lists of right and of other lengths; both stay where either does not fit. */
+static void joins_and_splits(const joined *p, const sheet *s)
+{
+    size_t n = (size_t)p->rows * p->columns, length, other;
+    uint8_t *bytes = lent_sheet(s);
+    int32_t *heights = (int32_t *)lent(n * sizeof *heights, p->heights);
+
+    for (length = n - 1; length <= n + 1; length++)
+        for (other = n - 1; other <= n + 1; other++) {
+            int fits = length == n && other == n;
+            uint8_t *joins = (uint8_t *)lent(length + 2 * GUARD, NULL);
+            uint8_t *splits = (uint8_t *)lent(other + 2 * GUARD, NULL);
+            sn_answer got;
+
+            memset(joins, UNTOUCHED, length + 2 * GUARD);
+            memset(splits, UNTOUCHED, other + 2 * GUARD);
+            got = sn_joins_and_splits(bytes, s->length, p->rows, p->columns, heights, n,
+                                      joins + GUARD, length, splits + GUARD, other);
+            check(got.code == (fits ? (uint32_t)SN_OK : (uint32_t)SN_BAD_LIST_LENGTH), p->name);
+            check(got.place == 0, p->name);
+            check(has_codes(joins, length, fits ? p->joins : NULL), p->name);
+            check(has_codes(splits, other, fits ? p->splits : NULL), p->name);
+            free(joins);
+            free(splits);
+        }
+    check(memcmp(heights, p->heights, n * sizeof *heights) == 0, p->name);
+    free(bytes);
+    free(heights);
+}
+
+/* What else they are refused for. */
+static void refused_joins(void)
+{
+    static const int32_t heights[4] = {0, SN_MAX_HEIGHT, SN_MAX_HEIGHT + 1, SN_MIN_HEIGHT - 1};
+    uint8_t guarded[2][4 + 2 * GUARD], *joins = guarded[0] + GUARD, *splits = guarded[1] + GUARD;
+    sn_answer got;
+
+    memset(guarded, UNTOUCHED, sizeof guarded);
+    got = sn_joins_and_splits(SN_NO_SHEET, 2, 2, heights, 4, joins, 4, splits, 4);
+    check(got.code == SN_HEIGHT_OUT_OF_RANGE && got.place == 2, "joins, a height out of range");
+    got = sn_joins_and_splits(SN_NO_SHEET, 2, 2, heights, 4, joins, 4, NULL, 0);
+    check(got.code == SN_BAD_LIST_LENGTH && got.place == 0, "no splits");
+    got = sn_joins_and_splits(SN_NO_SHEET, 2, 2, heights, 4, NULL, 0, splits, 4);
+    check(got.code == SN_BAD_LIST_LENGTH && got.place == 0, "no joins");
+    got = sn_joins_and_splits(SN_NO_SHEET, 2, 2, NULL, 0, NULL, 0, NULL, 0);
+    check(got.code == SN_BAD_HEIGHTS_LENGTH && got.place == 0, "joins, no heights");
+    got = sn_joins_and_splits(SN_NO_SHEET, 1, 121, NULL, 0, NULL, 0, NULL, 0);
+    check(got.code == SN_BAD_SIDES && got.place == 0, "joins, sides before lists");
+    check(has_codes(guarded[0], 4, NULL) && has_codes(guarded[1], 4, NULL),
+          "refused joins and splits leave their lists");
 }
 
 /* A step down and a step up from a post. */
@@ -747,6 +851,7 @@ static void refused_sheet(const sheet *s)
     static const size_t lengths[3] = {4, 4, 3};
     uint8_t *b = lent_sheet(s), marks[4] = {7, 7, 7, 7}, ring_list[SN_RING_LENGTH] = {7};
     int32_t heights[4] = {5, 0, 0, 5};
+    uint8_t joins[4] = {7, 7, 7, 7}, splits[4] = {7, 7, 7, 7};
     uint16_t dales[4] = {7, 7, 7, 7}, hills[4] = {7, 7, 7, 7};
     int i;
 
@@ -769,10 +874,13 @@ static void refused_sheet(const sheet *s)
         check(crest.code == s->code && !crest.place && !crest.count, "ridge, its sheet");
         check(sn_dales_and_hills(b, l, r, 2, a, 100, heights, n, dales, n, hills, n).code ==
               s->code, "dales and hills, their sheet");
+        check(sn_joins_and_splits(b, l, r, 2, heights, n, joins, n, splits, n).code == s->code,
+              "joins and splits, their sheet");
     }
     check(memcmp(heights, crossed.heights, sizeof heights) == 0, "no height is changed");
     for (i = 0; i < 4; i++)
-        check(marks[i] == 7 && dales[i] == 7 && hills[i] == 7, "no list is changed");
+        check(marks[i] == 7 && dales[i] == 7 && hills[i] == 7 && joins[i] == 7 && splits[i] == 7,
+              "no list is changed");
     check(ring_list[0] == 7 && ring_list[1] == 0, "no ring is changed");
     free(b);
 }
@@ -795,8 +903,12 @@ int main(void)
                 rings(plots[i], &sheets[j]);
                 parts(plots[i], &sheets[j]);
             }
+        for (i = 0; i < JOINED; i++)
+            if (joined_plots[i].rule == sheets[j].rule)
+                joins_and_splits(&joined_plots[i], &sheets[j]);
     }
     refused_rings();
+    refused_joins();
     lines();
     lines_2();
     lines_turned();

@@ -248,6 +248,24 @@ static void ring_of(const int32_t *heights, uint32_t post, uint8_t mark)
     check(!SN_IS_SADDLE(mark) || got.k == SN_SADDLE_RUNS(mark), "a saddle's runs");
 }
 
+/* Joins and splits of a post make its multiplicity; all of them make the counts. */
+static void bodies_of(const int32_t *heights, const uint8_t *marks, sn_counts counts)
+{
+    uint8_t joins[9], splits[9];
+    uint32_t post, all_joins = 0, all_splits = 0;
+    sn_answer got = sn_joins_and_splits(RULE_1, 3, 3, heights, 9, joins, 9, splits, 9);
+
+    check(got.code == SN_OK && got.place == 0, "joins and splits");
+    for (post = 0; post < 9; post++) {
+        check(SN_MULTIPLICITY(marks[post]) == 0u + joins[post] + splits[post],
+              "joins and splits of a post");
+        all_joins += joins[post];
+        all_splits += splits[post];
+    }
+    check(all_joins == counts.pits - 1, "all joins");
+    check(all_splits == counts.peaks - 1, "all splits");
+}
+
 /* A plot whose middle has a mark. */
 static void marks_of(const int32_t *heights, uint8_t middle)
 {
@@ -262,6 +280,7 @@ static void marks_of(const int32_t *heights, uint8_t middle)
         lines_of(heights, post, marks[post]);
     }
     check(sum == counts.saddles, "multiplicities make the count");
+    bodies_of(heights, marks, counts);
 }
 
 int main(void)

@@ -17,7 +17,7 @@ static int32_t heights[POSTS];
 
 /* What a call writes. */
 typedef struct {
-    uint8_t marks[POSTS];
+    uint8_t marks[POSTS], joins[POSTS], splits[POSTS];
     uint16_t dales[POSTS], hills[POSTS];
 } outcome;
 
@@ -29,8 +29,11 @@ static int work(outcome *of)
     sn_counts counts = sn_survey(SN_NO_SHEET, SIDE, SIDE, heights, POSTS, of->marks, POSTS);
     sn_answer parts = sn_dales_and_hills(SN_NO_SHEET, SIDE, SIDE, 3, 4, heights, POSTS,
                                          of->dales, POSTS, of->hills, POSTS);
+    sn_answer bodies = sn_joins_and_splits(SN_NO_SHEET, SIDE, SIDE, heights, POSTS, of->joins,
+                                           POSTS, of->splits, POSTS);
 
-    return counts.code == SN_OK && parts.code == SN_OK && memcmp(of, &right, sizeof *of) == 0;
+    return counts.code == SN_OK && parts.code == SN_OK && bodies.code == SN_OK &&
+        memcmp(of, &right, sizeof *of) == 0;
 }
 
 static void handler(int signal)

@@ -21,18 +21,19 @@
 #include <unistd.h>
 
 /* No figure is further than SLACK above what was measured, lest it be an old one. */
-enum { SIDE = 120, POSTS = SIDE * SIDE, CALLS = 12, KINDS = 6, PATTERN = 0xa5, SLACK = 512 };
+enum { SIDE = 120, POSTS = SIDE * SIDE, CALLS = 13, KINDS = 6, PATTERN = 0xa5, SLACK = 512 };
 
 /* What the processes share. */
 static struct lists {
     int32_t heights[POSTS];
     uint16_t line[SN_MAX_LINE], dales[POSTS], hills[POSTS];
-    uint8_t marks[POSTS], ring[SN_RING_LENGTH], file[SN_MAX_FILE], name[SN_MAX_NAME], rule;
+    uint8_t marks[POSTS], joins[POSTS], splits[POSTS];
+    uint8_t ring[SN_RING_LENGTH], file[SN_MAX_FILE], name[SN_MAX_NAME], rule;
     uint32_t post, code;
     size_t first, again; /* the bytes that a call took */
 } *of;
 
-static uint8_t stack[1 << 16];
+static uint8_t stack[1 << 19];
 static ucontext_t here, there;
 
 /* The rule, which each process takes from what is shared, and a name. */
@@ -99,6 +100,12 @@ static void parts(void)
                                   POSTS, of->hills, POSTS).code;
 }
 
+static void joins_and_splits(void)
+{
+    of->code = sn_joins_and_splits(SHEET, SIDE, SIDE, of->heights, POSTS, of->joins, POSTS,
+                                   of->splits, POSTS).code;
+}
+
 static void read_survey(void)
 {
     of->code = sn_read_survey(of->file, SN_MAX_FILE, of->heights, POSTS).code;
@@ -118,8 +125,8 @@ static struct {
     {"sn_version", version, 0, 0}, {"sn_settings", settings, 0, 0}, {"sn_survey", survey, 0, 0},
     {"sn_reshoot", reshoot, 0, 0}, {"sn_ring", ring, 0, 0}, {"sn_next_down", next_down, 0, 0},
     {"sn_next_up", next_up, 0, 0}, {"sn_thalweg", thalweg, 0, 0}, {"sn_ridge", ridge, 0, 0},
-    {"sn_dales_and_hills", parts, 0, 0}, {"sn_read_survey", read_survey, 0, 0},
-    {"sn_write_survey", write_survey, 0, 0}
+    {"sn_dales_and_hills", parts, 0, 0}, {"sn_joins_and_splits", joins_and_splits, 0, 0},
+    {"sn_read_survey", read_survey, 0, 0}, {"sn_write_survey", write_survey, 0, 0}
 };
 
 static int passed, failed;
