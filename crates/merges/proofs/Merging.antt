@@ -15,13 +15,13 @@ use Rattle.surface.specs.Patterns.{patternAt, upperStarts}
 use Rattle.surface.specs.Bodies.{classes}
 use Rattle.surface.specs.Names.{alike, merged}
 use Rattle.surface.proofs.General.Bools.{either, same-test}
-use Rattle.surface.proofs.General.ListOf.{getD-member, getD-mapped}
+use Rattle.surface.proofs.General.ListOf.{getD-member, getD-mapped, length-map}
 use Rattle.surface.proofs.AnyOrder.Walks.{member-any}
 use Rattle.surface.proofs.AnyOrder.Classes.{any-some, classes-ext, classes-length, classes-le}
 use Rattle.surface.proofs.AnyOrder.Roots.{eqb-sym, again}
 use Rattle.paths.specs.Paths.{pathEnd}
 use Rattle.starts.specs.Starts.{strideTo, postAt}
-use Rattle.starts.proofs.Placed.{length-map, start-inside, start-post}
+use Rattle.starts.proofs.Placed.{start-inside, start-post}
 use Rattle.merges.specs.Merges.{Rising, SameEnds, End, Linked, JoinedTo, Merged}
 use Rattle.merges.proofs.Forest.{own-end, end-inside}
 

@@ -17,7 +17,7 @@ use Rattle.surface.specs.Edges.{fallsIn}
 use Rattle.surface.specs.Bodies.{classes, splitsAt, splitsOf}
 use Rattle.surface.specs.Names.{alike, merged}
 use Rattle.surface.proofs.General.Bools.{either}
-use Rattle.surface.proofs.General.ListOf.{length-listOf, getD-listOf, listOf-ext}
+use Rattle.surface.proofs.General.ListOf.{length-listOf, getD-listOf, listOf-ext, length-map}
 use Rattle.surface.proofs.AnyOrder.Order.{rank-falls, reversed-strict}
 use Rattle.surface.proofs.AnyOrder.Bodies.{rank-once}
 use Rattle.surface.proofs.AnyOrder.RingEdges.{edge-ends}
@@ -32,7 +32,7 @@ use Rattle.paths.specs.Paths.{follow, along, pathEnd}
 use Rattle.paths.proofs.Shorter.{along-stays, same-end}
 use Rattle.starts.specs.Starts.{strides, strideTo, startPosts, firstStart, postAt}
 use Rattle.starts.proofs.Entries.{several-starts}
-use Rattle.starts.proofs.Placed.{start-posts, first-inside, length-map}
+use Rattle.starts.proofs.Placed.{start-posts, first-inside}
 use Rattle.merges.specs.Merges.{Rising, Merged}
 use Rattle.merges.proofs.Forest.{rising-ends}
 use Rattle.saddle_order.specs.Ascending.{isSeveral, Ascending}

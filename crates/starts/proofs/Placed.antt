@@ -1,5 +1,5 @@
 -- The posts where the upper runs of a plot's post start are those of its ring, and their strides go no further back than post 0.
-use Prim.Native.Nat.{ℕ, suc, _+_, _-_, _*_, _≤_, _<_}
+use Prim.Native.Nat.{ℕ, _+_, _-_, _*_, _≤_, _<_}
 use native.Mathlib.Omega.{arith}
 use mathlib.Core.Path.{_≡_, refl, sym, _∙_, ap, ap₂}
 use mathlib.Core.Bool.{Bool, true, false, cond, not, true≢false}
@@ -11,7 +11,7 @@ use Rattle.surface.specs.Plot.{Plot, posts, virtualPit, Sides, below}
 use Rattle.surface.specs.Edges.{places, fallsIn, top, bottom, left, right}
 use Rattle.surface.specs.Patterns.{patternAt, signsAt, upperStarts}
 use Rattle.surface.proofs.General.Bools.{either, and-left, and-right}
-use Rattle.surface.proofs.General.ListOf.{getD-mapped, getD-member}
+use Rattle.surface.proofs.General.ListOf.{map-id, length-map, getD-mapped, getD-member}
 use Rattle.surface.proofs.AnyOrder.Grid.{top-false, not-left, left-south, not-pit}
 use Rattle.surface.proofs.AnyOrder.PatternStarts.{Told, pattern-starts}
 use Rattle.surface.proofs.AnyOrder.UpperStarts.{upperStartsAt, upper-starting}
@@ -24,14 +24,6 @@ use Rattle.starts.specs.Starts.{strides, strideTo, postAt, startPosts, f
 map-map : (f g h : ℕ → ℕ) → ((x : ℕ) → g (f x) ≡ h x) → (l : List ℕ) → map g (map f l) ≡ map h l
 map-map f g h e [] = refl
 map-map f g h e (x ∷ l) = ap₂ _∷_ (e x) (map-map f g h e l)
-
-map-id : (f : ℕ → ℕ) → ((x : ℕ) → f x ≡ x) → (l : List ℕ) → map f l ≡ l
-map-id f e [] = refl
-map-id f e (x ∷ l) = ap₂ _∷_ (e x) (map-id f e l)
-
-pub length-map : (f : ℕ → ℕ) (l : List ℕ) → length (map f l) ≡ length l
-length-map f [] = refl
-length-map f (x ∷ l) = ap suc (length-map f l)
 
 module _ (pl : Plot) (sides : Sides pl.rows pl.columns) (p : ℕ) (h : p < posts pl) where
   abbrev low : ℕ → Bool

@@ -16,5 +16,6 @@ pub mod Sheets
 pub mod Starred
 pub mod LevelGround
 pub mod SlopedGround
+pub mod JoinedGround
 pub mod ExampleFiles
 pub mod ExampleSheets

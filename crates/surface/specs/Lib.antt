@@ -52,8 +52,8 @@ pub mod Calls
 pub mod Version
 pub mod Series
 pub mod Lister
--- OfCalls: what is proved of them. Demand: demand 3. Steepest: of next and lines. Sheets: of settings sheets. Grounds: of the ring call. Joins: of joins and splits. FirstVersion: of survey
--- files of version 1. Then the example plots, files and sheets.
+-- OfCalls: what is proved of them. Demand: demand 3. Steepest: of next and lines. Sheets: of settings sheets. Grounds: of the ring call. Joins: of joins and
+-- splits. FirstVersion: of survey files of version 1. Then the example plots, files and sheets.
 pub mod Demand
 pub mod Steepest
 pub mod Sheets
@@ -64,5 +64,6 @@ pub mod Examples
 pub mod Starred
 pub mod LevelGround
 pub mod SlopedGround
+pub mod JoinedGround
 pub mod ExampleFiles
 pub mod ExampleSheets

@@ -1,6 +1,5 @@
 -- The starts of the upper runs of every post are such as splits by saddles ask for.
 use Prim.Native.Nat.{ℕ, _*_, _<_}
-use native.Mathlib.Omega.{arith}
 use mathlib.Core.Path.{_≡_, refl, sym, _∙_, ap}
 use mathlib.Core.Bool.{Bool, true, false, not}
 use mathlib.Core.List.{List, [], _∷_, List·Memᴰ, List·Memᴰ·not-nil}
@@ -8,7 +7,7 @@ use Rattle.surface.specs.Lists.{lastOr}
 use Rattle.surface.specs.Plot.{Vertex, reversed}
 use Rattle.surface.specs.Edges.{Edge, ring}
 use Rattle.surface.specs.Ways.{Way}
-use Rattle.surface.proofs.AnyOrder.Order.{rank, rank-falls, reversed-strict}
+use Rattle.surface.proofs.AnyOrder.Order.{rank-falls, reversed-strict}
 use Rattle.surface.proofs.AnyOrder.RingEdges.{edge-sym, ring-edge, ring-member, ring-other}
 use Rattle.surface.proofs.AnyOrder.RingTouch.{Chain, ring-touch}
 use Rattle.surface.proofs.AnyOrder.Network.{Network}

@@ -60,12 +60,17 @@ total-listOf g f zero = refl
 total-listOf g f (suc n) = omega (arith, total-append g (listOf f n) (f n ∷ []), total-listOf g f n)
 
 -- the members of a list made by `listOf`
-map-id : (l : List ℕ) → map (λ x. x) l ≡ l
-map-id [] = refl
-map-id (x ∷ l) = ap (λ (m : List ℕ). x ∷ m) (map-id l)
+-- a list mapped by what changes nothing
+pub map-id : (f : ℕ → ℕ) → ((x : ℕ) → f x ≡ x) → (l : List ℕ) → map f l ≡ l
+map-id f e [] = refl
+map-id f e (x ∷ l) = ap₂ _∷_ (e x) (map-id f e l)
+
+pub length-map : (f : ℕ → ℕ) (l : List ℕ) → length (map f l) ≡ length l
+length-map f [] = refl
+length-map f (x ∷ l) = ap suc (length-map f l)
 
 pub total-sum : (f : ℕ → ℕ) (n : ℕ) → total (listOf f n) ≡ sum n f
-total-sum f n = ap total (sym (map-id (listOf f n))) ∙ total-listOf (λ x. x) f n
+total-sum f n = ap total (sym (map-id (λ x. x) (λ x. refl) (listOf f n))) ∙ total-listOf (λ x. x) f n
 
 pub member-listOf : (f : ℕ → ℕ) (n i w : ℕ) → i < n → f i ≡ w → List·Memᴰ w (listOf f n)
 unfolding listOf
