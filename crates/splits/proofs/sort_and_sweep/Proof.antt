@@ -5,7 +5,7 @@ use mathlib.Core.Path.{_≡_, sym, _∙_, ap}
 use lib.ListN.{length}
 use Rattle.surface.specs.Lists.{listOf}
 use Rattle.surface.proofs.General.ListOf.{length-listOf}
-use Rattle.splits.proofs.Sweeping.{lead-inside, leads-are, swept-none}
+use Rattle.sweep.proofs.Sweeping.{lead-inside, leads-are, swept-none}
 use borrow.Author.Needs.{needs}
 use Rattle.splits.proofs.sort_and_sweep.Statement.{statement}
 use Rattle.splits.proofs.sort_and_sweep.Tie as tie
@@ -20,6 +20,12 @@ start s = s .before .before .before .before .before .before .before .before .bef
 -- all splits are 0 at first
 cleared : (k : tie.After-clear) → let a = start (ordered k) .args in k .clear .last .0 ≡ listOf (λ _. 0) (a .grid .rows * a .grid .columns)
 cleared k = k .clear .ensures ∙ ap (listOf (λ _. 0)) (start (ordered k) .pre .0 .2)
+
+sort-saddles-requires : tie.Need-sort-saddles-requires
+sort-saddles-requires c κs =
+    let t = c .before .before .before .before in
+    let p = t .before .before .before .before .before .before .pre in
+    (p .0 .0, ((p .0 .1, t .change-table .ensures), p .1))
 
 returns : tie.Need-returns
 returns c =
@@ -57,5 +63,5 @@ sweep-requires c κs =
 pub sort-and-sweep-spec : {M : Type 1} → statement M
 sort-and-sweep-spec =
     tie.close
-    (tie.spec (search needs) (search needs) (λ c κs. search needs) (search needs) (search needs) (search needs) (search needs) (search needs) returns (search needs)
-    (search needs) fill-leads-requires (search needs) sweep-requires (search needs) (search needs) (search needs) (search needs) (λ c. search needs))
+    (tie.spec (search needs) (search needs) sort-saddles-requires (search needs) (search needs) (search needs) (search needs) (search needs) returns (search needs)
+    (search needs) fill-leads-requires (search needs) sweep-requires (search needs) (search needs) (search needs) (search needs) (λ c. c .before .before .before .before .sweep .ensures))

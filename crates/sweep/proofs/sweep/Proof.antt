@@ -6,10 +6,10 @@ use lib.ListN.{length, getD}
 use Rattle.surface.specs.Plot.{plotOf, Valid}
 use Rattle.surface.specs.Patterns.{patternAt}
 use Rattle.surface.proofs.General.ListOf.{length-listOf}
-use Rattle.splits.proofs.Sweeping.{Swept, swept-first, swept-next, swept-last, saddle-pattern}
+use Rattle.sweep.proofs.Sweeping.{Swept, swept-first, swept-next, swept-last, saddle-pattern}
 use borrow.Author.Needs.{needs}
-use Rattle.splits.proofs.sweep.Statement.{statement}
-use Rattle.splits.proofs.sweep.Tie as tie
+use Rattle.sweep.proofs.sweep.Statement.{statement}
+use Rattle.sweep.proofs.sweep.Tie as tie
 
 abbrev Inv-loop : tie.InvT-loop
 Inv-loop heights grid patterns sorted m table leads₀ splits₀ steps i₀ leads splits i =

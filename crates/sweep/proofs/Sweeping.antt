@@ -36,7 +36,7 @@ use Rattle.starts.proofs.Placed.{start-posts, first-inside}
 use Rattle.merges.specs.Merges.{Rising, Merged}
 use Rattle.merges.proofs.Forest.{rising-ends}
 use Rattle.saddle_order.specs.Ascending.{isSeveral, Ascending}
-use Rattle.splits.specs.Swept.{leadAt}
+use Rattle.sweep.specs.Swept.{leadAt}
 
 module _ (pl : Plot) (valid : Valid pl) where
   abbrev sides : Sides pl.rows pl.columns

@@ -5,8 +5,8 @@ use mathlib.Core.Path.{_≡_, refl, _∙_}
 use lib.ListN.{length, length-set}
 use Rattle.surface.specs.Lists.{stores}
 use Rattle.surface.proofs.General.Stores.{store-next, stores-all}
-use Rattle.splits.proofs.clear.Statement.{statement}
-use Rattle.splits.proofs.clear.Tie as tie
+use Rattle.sweep.proofs.clear.Statement.{statement}
+use Rattle.sweep.proofs.clear.Tie as tie
 
 abbrev Inv-loop : tie.InvT-loop
 Inv-loop list₀ n i₀ list i = (i ≤ length list₀) × (length list ≡ length list₀) × (list ≡ stores (λ _. 0) 0 i list₀)
