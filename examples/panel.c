@@ -1,7 +1,7 @@
 /*
  * A small panel program: reads a survey file and the plot's settings sheet, surveys it,
  * re-shoots a post, follows a walk a post at a time, and shows a saddle with the grounds
- * of its mark and its water line.
+ * of its mark, its water line and the ground that it joins.
  *
  *     panel plot.svy [plot.set]
  *
@@ -18,7 +18,7 @@ static size_t file_length, sheet_length; /* 0 where there is no sheet */
 static uint32_t rows, columns, along_row, along_column;
 static size_t posts;
 static int32_t heights[SN_MAX_POSTS];
-static uint8_t marks[SN_MAX_POSTS];
+static uint8_t marks[SN_MAX_POSTS], joins[SN_MAX_POSTS], splits[SN_MAX_POSTS];
 static uint16_t line[SN_MAX_LINE], dales[SN_MAX_POSTS], hills[SN_MAX_POSTS];
 
 /* Shows why a call was turned away: code, place, and the code in words. */
@@ -183,6 +183,18 @@ static int show_saddle(uint32_t saddle)
     return 0;
 }
 
+/* How many bodies of lower ground a post joins, and of higher, less one each. */
+static int show_joins(uint32_t post)
+{
+    sn_answer answer = sn_joins_and_splits(sheet, sheet_length, rows, columns, heights, posts,
+                                           joins, posts, splits, posts);
+
+    if (answer.code != SN_OK)
+        return refused("joins and splits", answer.code, answer.place);
+    printf("joins %d, splits %d\n", joins[post], splits[post]);
+    return 0;
+}
+
 int main(int argc, char **argv)
 {
     uint32_t middle, saddle;
@@ -213,5 +225,5 @@ int main(int argc, char **argv)
         return 1;
     for (saddle = 0; saddle < posts && !SN_IS_SADDLE(marks[saddle]); saddle++)
         ;
-    return saddle < posts && (show_ring(saddle) || show_saddle(saddle));
+    return saddle < posts && (show_ring(saddle) || show_saddle(saddle) || show_joins(saddle));
 }

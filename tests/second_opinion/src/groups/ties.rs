@@ -675,8 +675,33 @@ const LEVEL_TOPS: Drawn = Drawn {
     ],
 };
 
-const BODIES: [Drawn; 6] =
-    [EVEN_PASSES, ODD_PASSES, NORTH_BEFORE_WEST, EAST_BEFORE_SOUTH, LEVEL_RIM, LEVEL_TOPS];
+/// Driven 0 1 2 5 4 3: what is driven last ends beside the one top, and not as another.
+const LEVEL_END: Drawn = Drawn {
+    heights: "
+        1 0 0
+        0 0 0",
+    by_rule: [["000 000", "000 000"], ["000 000", "000 000"]],
+};
+
+/// Driven 0 1 2 5 4 3 6 7 8: post 3 joins the tops to what is driven after it.
+const LEVEL_TURN: Drawn = Drawn {
+    heights: "
+        1 1 0
+        0 0 0
+        0 0 0",
+    by_rule: [["000 000 000", "000 100 000"], ["000 000 000", "000 100 000"]],
+};
+
+const BODIES: [Drawn; 8] = [
+    EVEN_PASSES,
+    ODD_PASSES,
+    NORTH_BEFORE_WEST,
+    EAST_BEFORE_SOUTH,
+    LEVEL_RIM,
+    LEVEL_TOPS,
+    LEVEL_END,
+    LEVEL_TURN,
+];
 
 pub fn ties(t: &mut Tester) {
     t.group("ties as driven");
