@@ -1,5 +1,6 @@
 /*
- * The surface network of a levelled plot: marks, lines, dales and hills.
+ * The surface network of a levelled plot: marks, lines, dales and hills, joins and
+ * splits.
  *
  * A plot has rows by columns posts, SN_MIN_SIDE to SN_MAX_SIDE of each. Post
  * number = row * columns + column, both counted from 0 at the top left. A
@@ -35,8 +36,8 @@
  * steepest is the virtual pit where it is one of them, else the one with the greatest
  * drop over the length of its edge, compared exactly; of equal slopes, as between
  * neighbours of the post's own height, the lower one. Among those above it is the
- * one with the greatest rise over that length; of equal slopes the higher one. Marks
- * and rings do not depend on spacings.
+ * one with the greatest rise over that length; of equal slopes the higher one. Marks,
+ * rings, joins and splits do not depend on spacings.
  *
  *
  * Rules for every call
@@ -47,8 +48,9 @@
  *   during the call. A pointer may be null only where its length is 0; one that
  *   is not null is aligned for its type.
  * - Lists lent to one call share no memory. This is for the caller to keep. A call
- *   whose lists overlap may write wrong entries, and it may hang: sn_dales_and_hills
- *   with dales laid over heights never returns. The lists that a call writes are
+ *   whose lists overlap may write wrong entries, may hang, and may read and write
+ *   outside its lists: sn_dales_and_hills with dales laid over heights never returns,
+ *   and sn_joins_and_splits with joins laid over heights crashed. The lists that a call writes are
  *   declared restrict (SN_RESTRICT), so that gcc warns (-Wrestrict, part of -Wall)
  *   where it sees one list passed as two.
  * - Threads: there is no state, so any number of calls may run at the same time,
@@ -528,7 +530,10 @@ sn_answer sn_dales_and_hills(const uint8_t *sheet, size_t sheet_length,
  *   SN_BAD_HEIGHTS_LENGTH
  *   SN_BAD_LIST_LENGTH      joins or splits are not rows * columns
  *   SN_HEIGHT_OUT_OF_RANGE  place: the first such post
- * This call takes far more stack than the others: docs/C.md says how much.
+ * A re-shoot does not keep these lists: one new height may change joins and splits far
+ * away. Call again.
+ * Takes about 90 KB of stack, where every other call takes under 2 KB: mind threads and
+ * signal stacks that are small.
  */
 SN_USE_ANSWER SN_READS(1, 2) SN_READS(5, 6) SN_WRITES(7, 8) SN_WRITES(9, 10)
 sn_answer sn_joins_and_splits(const uint8_t *sheet, size_t sheet_length,

@@ -4,6 +4,7 @@ use saddle_order::sort_saddles;
 use starts::fill_leads;
 use starts::start_table;
 use surface::Grid;
+use surface::MAX_POSTS;
 use sweep::clear;
 use sweep::sweep;
 ghost use mathlib.Core.Path.{_≡_};
@@ -12,9 +13,6 @@ ghost use Rattle.surface.specs.Lists.{listOf};
 ghost use Rattle.surface.specs.Plot.{plotOf, posts, Valid};
 ghost use Rattle.surface.specs.Patterns.{patternAt};
 ghost use Rattle.surface.specs.Bodies.{splitsOf};
-
-// No plot has more posts.
-const MAX_POSTS: usize = 14400;
 
 // The splits of every post, by the patterns of the plot; the other lists are for the work. Ground without a saddle, as level ground is, is told at once.
 fn sort_and_sweep(

@@ -1,4 +1,5 @@
--- docs/SPECIFICATION.md, "Example plots": a ridge round a pit, where lower runs and bodies differ, by either rule.
+-- docs/SPECIFICATION.md, "Example plots": a ridge round a pit. By rule 1 lower runs lie in fewer
+-- bodies than there are runs, by rule 2 upper runs do.
 use mathlib.Core.Path.{_≡_}
 use mathlib.Core.Bool.{Bool, true, false}
 use mathlib.Core.List.{[], _∷_}
@@ -18,6 +19,7 @@ pub record JoinedGround : Type 0 where
   -- the lowest joins these two; at the others both runs lie in one body already, and they split the ridge
   pub ridgeJoins : joinsList (ridge false) (marks 9) (marks 9) ≡ 1 ∷ replicate 8 0
   pub ridgeSplits : splitsList (ridge false) (marks 9) (marks 9) ≡ 0 ∷ 0 ∷ 1 ∷ 0 ∷ 0 ∷ 0 ∷ 1 ∷ 0 ∷ 1 ∷ []
+  pub ridgeMarksHighest : surveyMarks (ridge true) (marks 9) ≡ 0 ∷ 1 ∷ 0 ∷ 0 ∷ 2 ∷ 0 ∷ 0 ∷ 3 ∷ 0 ∷ []
   -- by rule 2 the corners are not joined to the middle: the lowest post of the ridge beside it joins the two
   pub ridgeJoinsHighest : joinsList (ridge true) (marks 9) (marks 9) ≡ 0 ∷ 0 ∷ 0 ∷ 0 ∷ 0 ∷ 0 ∷ 0 ∷ 1 ∷ 0 ∷ []
   pub ridgeSplitsHighest : splitsList (ridge true) (marks 9) (marks 9) ≡ replicate 9 0

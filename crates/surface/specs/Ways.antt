@@ -1,4 +1,4 @@
--- docs/SPECIFICATION.md, "Lines, dales and hills": ways along edges, and what is in one piece.
+-- docs/SPECIFICATION.md, "Lines, dales and hills", and "Joins and splits": ways along edges, and what is in one piece.
 use Prim.Native.Nat.{ℕ}
 use Rattle.surface.specs.Plot.{Plot}
 use Rattle.surface.specs.Edges.{Edge, fallsIn}

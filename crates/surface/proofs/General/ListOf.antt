@@ -59,7 +59,6 @@ unfolding listOf total sum
 total-listOf g f zero = refl
 total-listOf g f (suc n) = omega (arith, total-append g (listOf f n) (f n ∷ []), total-listOf g f n)
 
--- the members of a list made by `listOf`
 -- a list mapped by what changes nothing
 pub map-id : (f : ℕ → ℕ) → ((x : ℕ) → f x ≡ x) → (l : List ℕ) → map f l ≡ l
 map-id f e [] = refl
@@ -72,6 +71,7 @@ length-map f (x ∷ l) = ap suc (length-map f l)
 pub total-sum : (f : ℕ → ℕ) (n : ℕ) → total (listOf f n) ≡ sum n f
 total-sum f n = ap total (sym (map-id (λ x. x) (λ x. refl) (listOf f n))) ∙ total-listOf (λ x. x) f n
 
+-- the members of a list made by `listOf`
 pub member-listOf : (f : ℕ → ℕ) (n i w : ℕ) → i < n → f i ≡ w → List·Memᴰ w (listOf f n)
 unfolding listOf
 member-listOf f zero i w h e = absurd (omega arith)
