@@ -532,7 +532,7 @@ sn_answer sn_dales_and_hills(const uint8_t *sheet, size_t sheet_length,
  *   SN_HEIGHT_OUT_OF_RANGE  place: the first such post
  * A re-shoot does not keep these lists: one new height may change joins and splits far
  * away. Call again.
- * Takes about 90 KB of stack, where every other call takes under 2 KB: mind threads and
+ * Takes about 90 KB of stack, where every other call takes 2 KB at most: mind threads and
  * signal stacks that are small.
  */
 SN_USE_ANSWER SN_READS(1, 2) SN_READS(5, 6) SN_WRITES(7, 8) SN_WRITES(9, 10)
