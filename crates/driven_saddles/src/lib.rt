@@ -7,7 +7,7 @@ ghost use lib.ListN.{length};
 ghost use Rattle.surface.specs.Lists.{one};
 ghost use Rattle.surface.specs.Plot.{Sides};
 ghost use Rattle.surface.specs.Patterns.{changeTable};
-ghost use Rattle.driven_saddles.specs.Collected.{severalIn, Collected};
+ghost use Rattle.driven_saddles.specs.Collected.{saddleIn, Collected};
 
 // x where b holds, else y.
 fn choose(b: bool, x: usize, y: usize) -> usize
@@ -17,9 +17,9 @@ fn choose(b: bool, x: usize, y: usize) -> usize
 }
 
 // 1 where post p is a saddle, else 0.
-fn several_at(patterns: &[u8], changes: &[u8], p: usize) -> usize
+fn saddle_at(patterns: &[u8], changes: &[u8], p: usize) -> usize
     requires { ⌜ (now changes ≡ changeTable) × (p < length (now patterns)) ⌝ }
-    ensures { λ r. ⌜ (r ≡ one (severalIn (now (patterns .entry)) p)) × (r ≤ 1) ⌝ }
+    ensures { λ r. ⌜ (r ≡ one (saddleIn (now (patterns .entry)) p)) × (r ≤ 1) ⌝ }
 {
     (4 <= changes[patterns[p] as usize]) as usize
 }
@@ -36,8 +36,8 @@ fn collect_row(
 ) -> usize
     requires { ⌜ Sides (grid .rows) (grid .columns) × (r < grid .rows) × (now changes ≡ changeTable) ⌝ }
     requires { ⌜ (length (now patterns) ≡ grid .rows * grid .columns) × (length (now list) ≡ grid .rows * grid .columns) ⌝ }
-    requires { ⌜ Collected (grid .columns) (severalIn (now patterns)) (r * grid .columns) (now list) found ⌝ }
-    ensures { λ m. ⌜ Collected (grid .columns) (severalIn (now (patterns .entry))) (r * grid .columns + grid .columns) (now (list .exit)) m ⌝ }
+    requires { ⌜ Collected (grid .columns) (saddleIn (now patterns)) (r * grid .columns) (now list) found ⌝ }
+    ensures { λ m. ⌜ Collected (grid .columns) (saddleIn (now (patterns .entry))) (r * grid .columns + grid .columns) (now (list .exit)) m ⌝ }
 {
     let columns = grid.columns;
     let first = r * columns;
@@ -47,7 +47,7 @@ fn collect_row(
     while c < columns {
         let p = first + choose(back, columns - 1 - c, c);
         list[m] = p as u16;
-        m += several_at(patterns, changes, p);
+        m += saddle_at(patterns, changes, p);
         c += 1;
     }
     m
@@ -57,7 +57,7 @@ fn collect_row(
 pub fn collect(grid: Grid, patterns: &[u8], changes: &[u8], list: &mut [u16]) -> usize
     requires { ⌜ Sides (grid .rows) (grid .columns) × (now changes ≡ changeTable) ⌝ }
     requires { ⌜ (length (now patterns) ≡ grid .rows * grid .columns) × (length (now list) ≡ grid .rows * grid .columns) ⌝ }
-    ensures { λ m. ⌜ Collected (grid .columns) (severalIn (now (patterns .entry))) (grid .rows * grid .columns) (now (list .exit)) m ⌝ }
+    ensures { λ m. ⌜ Collected (grid .columns) (saddleIn (now (patterns .entry))) (grid .rows * grid .columns) (now (list .exit)) m ⌝ }
 {
     let rows = grid.rows;
     let mut m = 0;

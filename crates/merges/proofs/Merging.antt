@@ -1,4 +1,4 @@
--- Bodies joined one after the other: names and number of what was joined so far, and one more.
+-- Bodies merged one after the other: names and number of what was merged so far, and one more.
 use Prim.Native.Nat.{ℕ, zero, suc, _+_, _≤_, _<_}
 use native.Mathlib.Omega.{arith}
 use native.Mathlib.Decide.{ℕ-discrete}
@@ -22,7 +22,7 @@ use Rattle.surface.proofs.AnyOrder.Roots.{eqb-sym, again}
 use Rattle.paths.specs.Paths.{pathEnd}
 use Rattle.starts.specs.Starts.{strideTo, postAt}
 use Rattle.starts.proofs.Placed.{start-inside, start-post}
-use Rattle.merges.specs.Merges.{Rising, SameEnds, End, Linked, JoinedTo, Merged}
+use Rattle.merges.specs.Merges.{Rising, SameEnds, End, Linked, MergedWith, Merged}
 use Rattle.merges.proofs.Forest.{own-end, end-inside}
 
 -- an end stays one where ends are the same
@@ -30,8 +30,8 @@ pub same-own : {pl : Plot} {l l′ : List ℕ} (e : ℕ) → Rising pl l → Sam
 same-own e r s i = rw (s .ends e ∙ own-end r e i) at (end-inside (s .rising) e (i .post))
 
 -- a post of the same body, and one of another
-pub joined-same : {pl : Plot} {l l′ : List ℕ} {e k : ℕ} (q b : ℕ) → Rising pl l → SameEnds pl l l′ → End pl l e → b ≡ pathEnd l q → b ≡ e → JoinedTo pl l l′ e q e k k
-joined-same {pl} {l} {l′} {e} {k} q b r s i f g =
+pub with-same : {pl : Plot} {l l′ : List ℕ} {e k : ℕ} (q b : ℕ) → Rising pl l → SameEnds pl l l′ → End pl l e → b ≡ pathEnd l q → b ≡ e → MergedWith pl l l′ e q e k k
+with-same {pl} {l} {l′} {e} {k} q b r s i f g =
     let same : pathEnd l q ≡ e = sym f ∙ g in
     record {
       linked =
@@ -47,8 +47,8 @@ joined-same {pl} {l} {l′} {e} {k} q b r s i f g =
     both : (v : ℕ) → pathEnd l v ≡ cond (eqb (pathEnd l v) e || eqb (pathEnd l v) e) e (pathEnd l v)
     both v = either (eqb (pathEnd l v) e) (λ t. rw t (eqb-true (pathEnd l v) e t)) (λ t. rw t)
 
-pub joined-other : {pl : Plot} {l l₁ l₂ : List ℕ} {e k r : ℕ} (q b : ℕ) → SameEnds pl l l₁ → Linked pl l₁ l₂ e b r → b ≡ pathEnd l q → (b ≡ e → ⊥) → JoinedTo pl l l₂ e q r k (k + 1)
-joined-other {pl} {l} {l₁} {l₂} {e} {k} {r} q b s d f g =
+pub with-other : {pl : Plot} {l l₁ l₂ : List ℕ} {e k r : ℕ} (q b : ℕ) → SameEnds pl l l₁ → Linked pl l₁ l₂ e b r → b ≡ pathEnd l q → (b ≡ e → ⊥) → MergedWith pl l l₂ e q r k (k + 1)
+with-other {pl} {l} {l₁} {l₂} {e} {k} {r} q b s d f g =
     record {
       linked =
           record {
@@ -70,7 +70,7 @@ merged-one {pl} {l} {l′} q e i end s =
     same v = either (eqb (pathEnd l q) (pathEnd l v)) (λ t. rw t (sym (eqb-true _ _ t) ∙ sym i)) (λ t. rw t)
 
 -- and one more
-pub merged-more : {pl : Plot} {l l₁ l₂ starts : List ℕ} {e k r j : ℕ} (q : ℕ) → Merged pl l l₁ starts e k → JoinedTo pl l₁ l₂ e q r k j → Merged pl l l₂ (q ∷ starts) r j
+pub merged-more : {pl : Plot} {l l₁ l₂ starts : List ℕ} {e k r j : ℕ} (q : ℕ) → Merged pl l l₁ starts e k → MergedWith pl l₁ l₂ e q r k j → Merged pl l l₂ (q ∷ starts) r j
 unfolding merged any classes
 merged-more {pl} {l} {l₁} {l₂} {starts} {e} {k} {r} {j} q m d = either (met q) known fresh
   where
@@ -182,7 +182,7 @@ map-member g (x ∷ l) d q m =
     (λ (n : List·Memᴰ q (map g l)). let i = map-member g l d q n in (suc (i .0), (omega (arith, i .1 .0), i .1 .1)))
     (List·Memᴰ·cases-cons m)
 
--- joined so far, of a list of places
+-- merged so far, of a list of places
 pub few-splits : {pl : Plot} {l l′ : List ℕ} {r j : ℕ} (f : ℕ → ℕ) (k : ℕ) → Merged pl l l′ (downTo f k) r j → j + 1 ≤ k
 few-splits {l = l} f k m = omega (arith, m .number, classes-length (alike (pathEnd l)) (downTo f k), length-downTo f k)
 

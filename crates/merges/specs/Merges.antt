@@ -36,8 +36,8 @@ pub record Linked (pl : Plot) (l l′ : List ℕ) (a b r : ℕ) : Type 0 where
   pub either : (r ≡ a) ⊎ (r ≡ b)
   pub ends : (v : ℕ) → pathEnd l′ v ≡ cond (eqb (pathEnd l v) a || eqb (pathEnd l v) b) r (pathEnd l v)
 
--- the body of post q was joined to the one with the end e, which has the end r now; n more than one became k, one more where it was another body
-pub record JoinedTo (pl : Plot) (l l′ : List ℕ) (e q r n k : ℕ) : Type 0 where
+-- the body of post q was merged with the one with the end e, which has the end r now; n more than one became k, one more where it was another body
+pub record MergedWith (pl : Plot) (l l′ : List ℕ) (e q r n k : ℕ) : Type 0 where
   pub linked : Linked pl l l′ e (pathEnd l q) r
   pub number : k ≡ n + one (not (eqb (pathEnd l q) e))
 

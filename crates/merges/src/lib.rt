@@ -11,7 +11,7 @@ ghost use Rattle.surface.specs.Plot.{plotOf, posts};
 ghost use Rattle.surface.specs.Patterns.{patternAt, upperStarts, startTable};
 ghost use Rattle.paths.specs.Paths.{pathEnd};
 ghost use Rattle.starts.specs.Starts.{strides, startPosts};
-ghost use Rattle.merges.specs.Merges.{Rising, SameEnds, End, Linked, JoinedTo, Merged};
+ghost use Rattle.merges.specs.Merges.{Rising, SameEnds, End, Linked, MergedWith, Merged};
 
 // The end of the path from p; it becomes p's entry.
 fn end_of(heights: &[i32], grid: Grid, list: &mut [u16], p: usize) -> usize
@@ -41,10 +41,10 @@ pub struct Body {
     pub splits: u8,
 }
 
-// Joins the body of post q to a body.
-fn join(heights: &[i32], grid: Grid, list: &mut [u16], body: Body, q: usize) -> Body
+// Merges the body of post q with a body.
+fn merge(heights: &[i32], grid: Grid, list: &mut [u16], body: Body, q: usize) -> Body
     requires { ⌜ Rising (plotOf grid (now heights)) (now list) × End (plotOf grid (now heights)) (now list) (body .end) × (q < posts (plotOf grid (now heights))) × (body .splits ≤ 3) ⌝ }
-    ensures { λ r. ⌜ JoinedTo (plotOf grid (now (heights .entry))) (now (list .entry)) (now (list .exit)) (body .end) q (r .end) (body .splits) (r .splits) ⌝ }
+    ensures { λ r. ⌜ MergedWith (plotOf grid (now (heights .entry))) (now (list .entry)) (now (list .exit)) (body .end) q (r .end) (body .splits) (r .splits) ⌝ }
 {
     let other = end_of(heights, grid, list, q);
     if other == body.end {
@@ -81,7 +81,7 @@ pub fn take_saddle(
             break;
         }
         let q = post_at(steps, grid.columns, p, place);
-        body = join(heights, grid, list, body, q);
+        body = merge(heights, grid, list, body, q);
         j += 1;
     }
     body.splits

@@ -35,7 +35,7 @@ use Rattle.starts.proofs.Entries.{several-starts}
 use Rattle.starts.proofs.Placed.{start-posts, first-inside}
 use Rattle.merges.specs.Merges.{Rising, Merged}
 use Rattle.merges.proofs.Forest.{rising-ends}
-use Rattle.saddle_order.specs.Ascending.{isSeveral, Ascending}
+use Rattle.saddle_order.specs.Ascending.{saddleAt, Ascending}
 use Rattle.sweep.specs.Swept.{leadAt}
 
 module _ (pl : Plot) (valid : Valid pl) where
@@ -49,12 +49,12 @@ module _ (pl : Plot) (valid : Valid pl) where
   above = rise (any-network pl sides)
 
   -- a post with several upper starts is a saddle, and no other is
-  starts-several : (p : ℕ) → p < posts pl → isSeveral pl p ≡ not (ltb (length (starts p)) 2)
+  starts-several : (p : ℕ) → p < posts pl → saddleAt pl p ≡ not (ltb (length (starts p)) 2)
   starts-several p h =
       several-starts (patternAt pl p) (pattern-lt (record { valid = valid; post = h }))
       ∙ ap (λ (k : ℕ). not (ltb k 2)) (sym (length-map _ (upperStarts (patternAt pl p))) ∙ ap length (start-posts pl sides p h))
 
-  plain : (p : ℕ) → p < posts pl → (isSeveral pl p ≡ true → ⊥) → length (starts p) ≤ 1
+  plain : (p : ℕ) → p < posts pl → (saddleAt pl p ≡ true → ⊥) → length (starts p) ≤ 1
   plain p h n =
       either (ltb (length (starts p)) 2) (λ e. omega (arith, ltb-true (length (starts p)) 2 e))
       (λ e. absurd (n (starts-several p h ∙ ap not e)))
@@ -74,7 +74,7 @@ module _ (pl : Plot) (valid : Valid pl) where
       (a .1, up-post net p m h (edge-ends sides (fallsIn pl) (a .0) .1) (a .1))
 
   -- a post that is no saddle splits nothing
-  no-splits : (p : ℕ) → p < posts pl → (isSeveral pl p ≡ true → ⊥) → splitsAt pl p ≡ 0
+  no-splits : (p : ℕ) → p < posts pl → (saddleAt pl p ≡ true → ⊥) → splitsAt pl p ≡ 0
   unfolding splitsAt
   no-splits p h n = plain-splits (any-network pl sides) (upper-starting (any-network pl sides)) p h (plain p h n)
 
@@ -86,7 +86,7 @@ module _ (pl : Plot) (valid : Valid pl) where
     pub climbs : Climbs (any-network pl sides) (upper-starting (any-network pl sides)) k (pathEnd leads)
     pub rising : Rising pl leads
     pub waiting : (j : ℕ) → j < i → k ≤ above (getD sorted j 0)
-    pub passed : (p : ℕ) → p < posts pl → isSeveral pl p ≡ true → k ≤ above p → (j : ℕ) × ((j < i) × (getD sorted j 0 ≡ p))
+    pub passed : (p : ℕ) → p < posts pl → saddleAt pl p ≡ true → k ≤ above p → (j : ℕ) × ((j < i) × (getD sorted j 0 ≡ p))
     pub size : length splits ≡ posts pl
     pub done : (p : ℕ) → p < posts pl → above p < k → getD splits p 0 ≡ splitsAt pl p
     pub todo : (p : ℕ) → p < posts pl → k ≤ above p → getD splits p 0 ≡ 0
@@ -173,7 +173,7 @@ module _ (pl : Plot) (valid : Valid pl) where
       later = w .waiting i (omega arith)
 
       -- no saddle is between
-      between : (q : ℕ) → q < posts pl → w .k ≤ above q → above q < above p → isSeveral pl q ≡ true → ⊥
+      between : (q : ℕ) → q < posts pl → w .k ≤ above q → above q < above p → saddleAt pl q ≡ true → ⊥
       between q n x y z = go (w .passed q n z x)
         where
           go : (j : ℕ) × ((j < suc i) × (getD sorted j 0 ≡ q)) → ⊥

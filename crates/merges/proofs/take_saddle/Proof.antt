@@ -102,8 +102,8 @@ next c =
     let p = c .before .before .start-of2 in
     post (start a) (a .loop .j) (c .post-at2 .result) (p .result) (there (c .before)) (p .ensures .0) (c .post-at2 .ensures .0)
 
-join-requires : tie.Need-join-requires Inv-loop μ-loop
-join-requires c κs =
+merge-requires : tie.Need-merge-requires Inv-loop μ-loop
+merge-requires c κs =
     let m = c .before .before .before .before .before .loop .inv .2 in
     (m .rising, m .end, next (c .before) .1, omega (arith, few-splits _ _ m))
 
@@ -115,10 +115,10 @@ loop-again c =
     let q = k .before .before in (
       omega arith,
       omega (arith, there (q .before)),
-      rw (add-one (a .loop .j)) (rw (next q .0) at (merged-more _ (a .loop .inv .2) (k .join .ensures))),
+      rw (add-one (a .loop .j)) (rw (next q .0) at (merged-more _ (a .loop .inv .2) (k .merge .ensures))),
     )
 
--- all starts were joined
+-- all starts were merged
 all : (a : tie.At-loop Inv-loop μ-loop) → let z = start a in
     a .loop .j ≡ length (upperStarts (z .args .pattern)) → (end : ℕ) × Merged (plotOf (z .args .grid) (z .args .heights .now)) (z .args .list .now) (a .loop .list) (startPosts (plotOf (z .args .grid) (z .args .heights .now)) (z .args .p)) end (a .loop .body .splits)
 all a e =
@@ -152,5 +152,5 @@ returns-2 c =
 pub take-saddle-spec : {M : Type 1} → statement M
 take-saddle-spec =
     tie.close
-    (tie.spec Inv-loop μ-loop start-of-requires post-at-requires end-of-requires loop-holds start-of-requires-2 post-at-requires-2 join-requires (λ c. omega arith)
+    (tie.spec Inv-loop μ-loop start-of-requires post-at-requires end-of-requires loop-holds start-of-requires-2 post-at-requires-2 merge-requires (λ c. omega arith)
     (λ c. omega arith) loop-again same-length returns same-length-2 returns-2)
