@@ -50,9 +50,9 @@
  * - Lists lent to one call share no memory. This is for the caller to keep. A call
  *   whose lists overlap may write wrong entries, may hang, and may read and write
  *   outside its lists: sn_dales_and_hills with dales laid over heights never returns,
- *   and sn_joins_and_splits with joins laid over heights crashed. The lists that a call writes are
- *   declared restrict (SN_RESTRICT), so that gcc warns (-Wrestrict, part of -Wall)
- *   where it sees one list passed as two.
+ *   and sn_joins_and_splits with joins laid over heights crashed. The lists that a
+ *   call writes are declared restrict (SN_RESTRICT), so that gcc warns (-Wrestrict,
+ *   part of -Wall) where it sees one list passed as two.
  * - Threads: there is no state, so any number of calls may run at the same time,
  *   as long as no list that one of them writes is lent to another. Lists that are
  *   only read may be lent to several at once. Whoever re-shoots a plot keeps other

@@ -1,7 +1,8 @@
 /*
  * How much stack each call takes, its arguments included, on large plots of several
  * kinds, by both rules. Standard input has a line for each call, its name and the
- * bytes that it may take: the table of docs/C.md.
+ * bytes that it may take: the table of docs/C.md. Each call is then run on a stack that
+ * has just these, with nothing below it that may be read or written.
  *
  *     stack [FIRST]
  *
@@ -31,6 +32,7 @@ static struct lists {
     uint8_t ring[SN_RING_LENGTH], file[SN_MAX_FILE], name[SN_MAX_NAME], rule;
     uint32_t post, code;
     size_t first, again; /* the bytes that a call took */
+    int confined;        /* it ended on a stack that had no more than it may take */
 } *of;
 
 static uint8_t stack[1 << 19];
@@ -141,6 +143,17 @@ static void check(int holds, const char *name, const char *what, size_t bytes)
     }
 }
 
+/* Runs a call on a stack of so many bytes. */
+static void run_on(uint8_t *lowest, size_t bytes, void (*call)(void))
+{
+    getcontext(&there);
+    there.uc_stack.ss_sp = lowest;
+    there.uc_stack.ss_size = bytes;
+    there.uc_link = &here;
+    makecontext(&there, call, 0);
+    swapcontext(&here, &there);
+}
+
 /* The bytes of stack that a call touches. */
 static size_t taken(void (*call)(void))
 {
@@ -149,19 +162,26 @@ static size_t taken(void (*call)(void))
 
     for (i = 0; i < sizeof stack; i++)
         byte[i] = PATTERN;
-    getcontext(&there);
-    there.uc_stack.ss_sp = stack;
-    there.uc_stack.ss_size = sizeof stack;
-    there.uc_link = &here;
-    makecontext(&there, call, 0);
-    swapcontext(&here, &there);
+    run_on(stack, sizeof stack, call);
     for (i = 0; i < sizeof stack && byte[i] == PATTERN; i++)
         ;
     return sizeof stack - i;
 }
 
-/* Runs a call in a process of its own, twice. */
-static void measure(void (*call)(void))
+/* Runs a call on a stack of so many bytes with as many below it that end the process. */
+static void confine(void (*call)(void), size_t bytes)
+{
+    uint8_t *below = (uint8_t *)mmap(NULL, 2 * sizeof stack, PROT_READ | PROT_WRITE,
+                                     MAP_PRIVATE | MAP_ANONYMOUS, -1, 0);
+
+    if (below == MAP_FAILED || mprotect(below, sizeof stack, PROT_NONE) != 0)
+        _exit(1);
+    run_on(below + sizeof stack, bytes, call);
+}
+
+/* Runs a call in a process of its own, twice with room, and once more on as many bytes as
+   it may take. */
+static void measure(void (*call)(void), size_t bytes)
 {
     int status = 1;
     pid_t child = fork();
@@ -169,8 +189,12 @@ static void measure(void (*call)(void))
     if (child == 0) {
         sheet[RULE_PLACE] = of->rule;
         of->code = SN_BAD_SPACING;
+        of->confined = 0;
         of->first = taken(call);
         of->again = taken(call);
+        of->code = SN_BAD_SPACING;
+        confine(call, bytes);
+        of->confined = 1;
         _exit(0);
     }
     if (child < 0 || waitpid(child, &status, 0) != child || status != 0)
@@ -188,8 +212,8 @@ static void fill(uint32_t kinds, uint8_t rule)
         seed = seed * 1664525 + 1013904223;
         of->heights[i] = (int32_t)((seed >> 8) % kinds);
     }
-    measure(survey);
-    measure(write_survey);
+    measure(survey, sizeof stack);
+    measure(write_survey, sizeof stack);
     for (i = POSTS / 2; i < POSTS - 1 && !SN_IS_SADDLE(of->marks[i]); i++)
         ;
     of->post = i;
@@ -225,7 +249,8 @@ int main(int argc, char **argv)
     for (k = 0; k < KINDS; k++) {
         fill(kinds[k % 3], k < 3 ? SN_THROUGH_LOWEST : SN_THROUGH_HIGHEST);
         for (i = 0; i < CALLS; i++) {
-            measure(calls[i].call);
+            measure(calls[i].call, calls[i].figure);
+            check(of->confined, calls[i].name, "on a stack of just its figure", calls[i].figure);
             check(of->code == SN_OK, calls[i].name, sn_code_text(of->code), 0);
             check(of->first <= calls[i].figure + more, calls[i].name, "the first time", of->first);
             check(of->again <= calls[i].figure, calls[i].name, "again", of->again);

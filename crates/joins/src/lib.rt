@@ -41,7 +41,7 @@ fn verdict(
 }
 
 // The joins of a post by its pattern and its splits: half as many runs start as there are changes, and a saddle's multiplicity is one less. No branch, since
-// a mark is a toss-up that no processor foresees.
+// no processor can predict marks.
 fn joins_from(table: &[u8], pattern: u8, splits: u8) -> u8
     requires { ⌜ (now table ≡ changeTable) × (splits ≤ multiplicity (markIn pattern)) ⌝ }
     ensures { λ r. ⌜ r ≡ multiplicity (markIn pattern) - splits ⌝ }

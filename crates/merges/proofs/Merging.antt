@@ -18,7 +18,7 @@ use Rattle.surface.proofs.General.Bools.{either, same-test}
 use Rattle.surface.proofs.General.ListOf.{getD-member, getD-mapped, length-map}
 use Rattle.surface.proofs.AnyOrder.Walks.{member-any}
 use Rattle.surface.proofs.AnyOrder.Classes.{any-some, classes-ext, classes-length, classes-le}
-use Rattle.surface.proofs.AnyOrder.Roots.{eqb-sym, again}
+use Rattle.surface.proofs.AnyOrder.Roots.{eqb-sym, merged-known}
 use Rattle.paths.specs.Paths.{pathEnd}
 use Rattle.starts.specs.Starts.{strideTo, postAt}
 use Rattle.starts.proofs.Placed.{start-inside, start-post}
@@ -100,7 +100,7 @@ merged-more {pl} {l} {l₁} {l₂} {starts} {e} {k} {r} {j} q m d = either (met 
           rising = d .linked .rising;
           end = d .linked .end;
           root = (x .0, (List·Memᴰ·tail (x .1 .0), same ∙ x .1 .1));
-          ends = λ v. d .linked .ends v ∙ stays same v ∙ m .ends v ∙ ap (λ (y : ℕ). merged name y starts v) (sym same) ∙ sym (again name r q starts t v);
+          ends = λ v. d .linked .ends v ∙ stays same v ∙ m .ends v ∙ ap (λ (y : ℕ). merged name y starts v) (sym same) ∙ sym (merged-known name r q starts t v);
           number = rw t (omega (arith, m .number, d .number, ap (λ (b : Bool). one (not b)) (eq-eqb (pathEnd l₁ q) e (on q t))));
         }
       where
@@ -182,7 +182,7 @@ map-member g (x ∷ l) d q m =
     (λ (n : List·Memᴰ q (map g l)). let i = map-member g l d q n in (suc (i .0), (omega (arith, i .1 .0), i .1 .1)))
     (List·Memᴰ·cases-cons m)
 
--- merged so far, of a list of places
+-- there are fewer splits than posts were merged
 pub few-splits : {pl : Plot} {l l′ : List ℕ} {r j : ℕ} (f : ℕ → ℕ) (k : ℕ) → Merged pl l l′ (downTo f k) r j → j + 1 ≤ k
 few-splits {l = l} f k m = omega (arith, m .number, classes-length (alike (pathEnd l)) (downTo f k), length-downTo f k)
 

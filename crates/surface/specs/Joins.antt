@@ -9,19 +9,22 @@ use Rattle.surface.specs.Lists.{total}
 use Rattle.surface.specs.Plot.{Plot, posts, below, reversed}
 use Rattle.surface.specs.Ways.{Way, EdgeOf}
 use Rattle.surface.specs.Marks.{multiplicity}
-use Rattle.surface.specs.Bodies.{inOneBody, BelowOf, neighboursOf}
+use Rattle.surface.specs.Bodies.{inOneBody, BelowOf, BodiesLessOne, neighboursOf}
 use Rattle.surface.specs.Calls.{surveyAnswer, surveyMarks, joinsAnswer, joinsList, splitsList}
 
 -- bodies are told by ways: of what is below p, two lie in one body exactly where a way along edges through what is below p joins them
 abbrev pub BodiesByWays : Plot → (ℕ → ℕ → Bool) → Type 0
 BodiesByWays pl lower =
-    (p q r : ℕ) → p < posts pl → BelowOf lower (posts pl) p q → BelowOf lower (posts pl) p r
+    (p q r : ℕ) → BelowOf lower (posts pl) p q → BelowOf lower (posts pl) p r
     → inOneBody lower (neighboursOf pl) (posts pl) p q r ≡ true ↔ Way (EdgeOf pl) (BelowOf lower (posts pl) p) q r
 
--- of lists that an accepted call was lent, and of every list of marks that a survey is
+-- of lists that an accepted call was lent, and of every list of marks that a survey of the plot is lent
 pub record Joined (pl : Plot) (joins splits : List ℕ) : Type 0 where
   pub bodiesBelow : BodiesByWays pl (below pl)
   pub bodiesAbove : BodiesByWays pl (reversed (below pl))
+  -- joins are the bodies that a post's lower neighbours lie in, less one, and splits those of its upper neighbours
+  pub joinsBodies : (p : ℕ) → p < posts pl → BodiesLessOne pl (below pl) p (getD (joinsList pl joins splits) p 0)
+  pub splitsBodies : (p : ℕ) → p < posts pl → BodiesLessOne pl (reversed (below pl)) p (getD (splitsList pl joins splits) p 0)
   -- joins sum to the pits less one, the virtual pit being a pit
   pub joinsSum : (marks : List ℕ) → length marks ≡ posts pl → total (joinsList pl joins splits) + 1 ≡ surveyAnswer pl marks .pits
   -- splits to the peaks less one

@@ -5,6 +5,7 @@
 --     f : A → B, and below it f x = ..       a definition with its type; `abbrev`, `unfoldable` and `pub` may be skipped
 --     (x : A) → B     (x y : A) → B          for every x of type A (for every x and y), B
 --     A → B, where these are statements      if A then B
+--     (x : A) × B                            there is an x of type A such that B
 --     {A : Type 0} → ..                      for every type A, which is not written where the definition is used
 --     λ x. ..    let x = .. in ..            a function; a name for a value
 --     cond b x y                             x where b is true, else y;  &&, ||, not: of true and false

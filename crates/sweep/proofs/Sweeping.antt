@@ -86,7 +86,7 @@ module _ (pl : Plot) (valid : Valid pl) where
     pub climbs : Climbs (any-network pl sides) (upper-starting (any-network pl sides)) k (pathEnd leads)
     pub rising : Rising pl leads
     pub waiting : (j : ℕ) → j < i → k ≤ above (getD sorted j 0)
-    pub passed : (p : ℕ) → p < posts pl → saddleAt pl p ≡ true → k ≤ above p → (j : ℕ) × ((j < i) × (getD sorted j 0 ≡ p))
+    pub left : (p : ℕ) → p < posts pl → saddleAt pl p ≡ true → k ≤ above p → (j : ℕ) × ((j < i) × (getD sorted j 0 ≡ p))
     pub size : length splits ≡ posts pl
     pub done : (p : ℕ) → p < posts pl → above p < k → getD splits p 0 ≡ splitsAt pl p
     pub todo : (p : ℕ) → p < posts pl → k ≤ above p → getD splits p 0 ≡ 0
@@ -137,7 +137,7 @@ module _ (pl : Plot) (valid : Valid pl) where
             };
         rising = r;
         waiting = λ j _. omega arith;
-        passed = λ p h t _. a .all p h t;
+        left = λ p h t _. a .all p h t;
         size = rw z (length-listOf (λ _. 0) (posts pl));
         done = λ p h t. absurd (omega arith);
         todo = λ p h _. rw z (getD-listOf (λ _. 0) (posts pl) p 0 h);
@@ -174,7 +174,7 @@ module _ (pl : Plot) (valid : Valid pl) where
 
       -- no saddle is between
       between : (q : ℕ) → q < posts pl → w .k ≤ above q → above q < above p → saddleAt pl q ≡ true → ⊥
-      between q n x y z = go (w .passed q n z x)
+      between q n x y z = go (w .left q n z x)
         where
           go : (j : ℕ) × ((j < suc i) × (getD sorted j 0 ≡ q)) → ⊥
           go f = last (ℕ-discrete (f .0) i)
@@ -212,7 +212,7 @@ module _ (pl : Plot) (valid : Valid pl) where
                 (inr (t .root .0, (rw (start-posts pl sides p post) at (t .root .1 .0), t .root .1 .1))));
             rising = t .rising;
             waiting = λ j n. fewer-above (getD sorted j 0) p post (a .rises j i n h);
-            passed = λ q n z x. back q n x (w .passed q n z (omega (arith, later)));
+            left = λ q n z x. back q n x (w .left q n z (omega (arith, later)));
             size = length-set splits p r ∙ w .size;
             done = λ q n x. stored q n x (ℕ-discrete q p);
             todo = λ q n x. getD-set-other splits p q r 0 (λ e. omega (arith, ap above e)) ∙ w .todo q n (omega (arith, later));
@@ -247,7 +247,7 @@ module _ (pl : Plot) (valid : Valid pl) where
           either (ltb (above p) (w .k)) (λ y. w .done p h (ltb-true (above p) (w .k) y))
           (λ y.
           let z = ltb-false (above p) (w .k) y in
-          w .todo p h z ∙ sym (no-splits p h (λ s. omega (arith, w .passed p h s z .1 .0))))
+          w .todo p h z ∙ sym (no-splits p h (λ s. omega (arith, w .left p h s z .1 .0))))
 
   -- what the next saddle is taken by: its pattern, which has starts
   pub saddle-pattern : {patterns sorted : List ℕ} {m : ℕ} → patterns ≡ listOf (patternAt pl) (posts pl) → Ascending pl sorted m → (i : ℕ) → i < m

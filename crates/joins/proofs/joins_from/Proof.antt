@@ -24,7 +24,7 @@ told : (c : tie.After-shared-slice-known) → multiplicity (markIn (c .before .a
 told c = multiplicity-in (c .before .args .pattern) ∙ rw (c .before .pre .0, table-at (c .before .args .pattern) (omega arith))
 
 sub-result : tie.Need-sub-result
-sub-result c = less-some (runs c) .0
+sub-result c = omega (arith, less-some (runs c) .0)
 
 sub-result-2 : tie.Need-sub-result-2
 sub-result-2 c = omega (arith, c .before .pre .1, told c, less-some (runs c) .1)

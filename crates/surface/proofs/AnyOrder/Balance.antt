@@ -21,7 +21,7 @@ use Rattle.surface.proofs.AnyOrder.Grid.{east-post, south-post}
 use Rattle.surface.proofs.AnyOrder.Changes.{turn, changes-even, changes-round}
 use Rattle.surface.proofs.AnyOrder.Signs.{mark-changes}
 use Rattle.surface.proofs.AnyOrder.RingSums.{when}
-use Rattle.surface.proofs.AnyOrder.Corners.{triangle, borderEdge, fromPost, corners}
+use Rattle.surface.proofs.AnyOrder.Corners.{triangle, borderEdge, fromPost, corners-sum}
 use Rattle.surface.proofs.AnyOrder.Census.{counted, census}
 
 -- a triangle has one middle corner
@@ -71,7 +71,7 @@ module _ (lower : ℕ → ℕ → Bool) (o : StrictTotal lower) {rows columns : 
         omega (
           arith,
           sum-ext n _ _ (λ p _. changes-round (λ q. lower q p) (ring rows columns falls p)),
-          corners s falls τ (λ v a b. omega arith),
+          corners-sum s falls τ (λ v a b. omega arith),
           sum-ext n _ _ counts,
           census rows columns (s .tall) (s .wide),
         )

@@ -1,16 +1,18 @@
--- How many classes a list has members of: it has some where it has members, and only the test between its own members matters.
-use Prim.Native.Nat.{ℕ, _+_, _≤_}
+-- How many classes a list has members of: it has some where it has members, and only the test between its own members matters. Representatives of them.
+use Prim.Native.Nat.{ℕ, zero, suc, _+_, _≤_, _<_}
 use native.Mathlib.Omega.{arith}
 use mathlib.Core.Path.{_≡_, refl, sym, _∙_, ap, ap₂}
+use mathlib.Core.Logic.{⊎-elim, _↔_}
 use mathlib.Core.Bool.{Bool, true, false, not, true≢false}
-use mathlib.Core.List.{List, [], _∷_, List·Memᴰ, List·Memᴰ·head, List·Memᴰ·tail, List·Memᴰ·not-nil}
+use mathlib.Core.List.{List, [], _∷_, _++_, List·Memᴰ, List·Memᴰ·head, List·Memᴰ·tail, List·Memᴰ·cases-cons, List·Memᴰ·not-nil}
 use lib.Dec.{eqb}
-use lib.ListN.{length}
+use lib.ListN.{length, getD}
 use borrow.Author.Tests.{eqb-true, eqb-false, eq-eqb, ne-eqb}
-use Rattle.surface.specs.Lists.{filter, any, one}
+use Rattle.surface.specs.Lists.{keep, filter, any, one}
 use Rattle.surface.specs.Bodies.{classes}
 use Rattle.surface.specs.Names.{alike}
 use Rattle.surface.proofs.General.Bools.{either, same-test}
+use Rattle.surface.proofs.General.ListOf.{getD-member}
 use Rattle.surface.proofs.AnyOrder.Walks.{filter-member, member-filter, filter-some, member-any}
 
 -- one that passes a test
@@ -58,6 +60,70 @@ module _ (same : ℕ → ℕ → Bool) where
   unfolding classes
   classes-length [] = omega arith
   classes-length (x ∷ l) = either (any (λ y. same y x) l) (λ e. rw e (omega (arith, classes-length l))) (λ e. rw e (omega (arith, classes-length l)))
+
+  -- one of each class: the member that counts
+  unfoldable pub representatives : List ℕ → List ℕ
+  representatives [] = []
+  representatives (x ∷ l) = keep (not (any (λ q. same q x) l)) x ++ representatives l
+
+  pub representatives-length : (l : List ℕ) → length (representatives l) ≡ classes same l
+  unfolding classes representatives
+  representatives-length [] = refl
+  representatives-length (x ∷ l) = either (any (λ q. same q x) l) (λ e. rw e (omega (arith, representatives-length l))) (λ e. rw e (omega (arith, representatives-length l)))
+
+  pub representatives-member : (l : List ℕ) (q : ℕ) → List·Memᴰ q (representatives l) → List·Memᴰ q l
+  unfolding representatives
+  representatives-member [] q m = m
+  representatives-member (x ∷ l) q m =
+      either (any (λ y. same y x) l) (λ e. List·Memᴰ·tail (representatives-member l q (rw e at m)))
+      (λ e.
+      ⊎-elim (λ (i : q ≡ x). List·Memᴰ·head i) (λ (k : List·Memᴰ q (representatives l)). List·Memᴰ·tail (representatives-member l q k))
+      (List·Memᴰ·cases-cons (rw e at m)))
+
+  -- where the test between members is that of an equivalence
+  module _ (R : ℕ → ℕ → Type 0) (back : (q r : ℕ) → R q r → R r q) (on : (q r x : ℕ) → R q r → R r x → R q x) where
+    abbrev Tells : List ℕ → Type 0
+    Tells l = (q r : ℕ) → List·Memᴰ q l → List·Memᴰ r l → same q r ≡ true ↔ R q r
+
+    abbrev Apart : List ℕ → Type 0
+    Apart l = (i j : ℕ) → i < j → j < length l → R (getD l i 0) (getD l j 0) → ⊥
+
+    -- every member is related to one of them
+    pub representatives-every : (l : List ℕ) → Tells l → ((q : ℕ) → List·Memᴰ q l → R q q) → (q : ℕ) → List·Memᴰ q l → (r : ℕ) × (List·Memᴰ r (representatives l) × R q r)
+    unfolding representatives
+    representatives-every [] t self q m = absurd (List·Memᴰ·not-nil m)
+    representatives-every (x ∷ l) t self q m =
+        let later = representatives-every l (λ y r i j. t y r (List·Memᴰ·tail i) (List·Memᴰ·tail j)) (λ y i. self y (List·Memᴰ·tail i)) in
+        either (any (λ y. same y x) l)
+        (λ e.
+        let k = any-some (λ y. same y x) l e in
+        let f = later (k .0) (k .1 .0) in
+        let g = t (k .0) x (List·Memᴰ·tail (k .1 .0)) (List·Memᴰ·head refl) .0 (k .1 .1) in
+        rw e
+        (⊎-elim (λ (i : q ≡ x). (f .0, (f .1 .0, on q (k .0) (f .0) (rw i (back (k .0) x g)) (f .1 .1))))
+        (λ (i : List·Memᴰ q l). later q i)
+        (List·Memᴰ·cases-cons m)))
+        (λ e.
+        rw e
+        (⊎-elim (λ (i : q ≡ x). (q, (List·Memᴰ·head i, self q m)))
+        (λ (i : List·Memᴰ q l). let f = later q i in (f .0, (List·Memᴰ·tail (f .1 .0), f .1 .1)))
+        (List·Memᴰ·cases-cons m)))
+
+    -- and no two of them are related
+    pub representatives-apart : (l : List ℕ) → Tells l → Apart (representatives l)
+    unfolding representatives
+    representatives-apart [] t = λ i j a b r. absurd (omega arith)
+    representatives-apart (x ∷ l) t =
+        let later = representatives-apart l (λ y r i j. t y r (List·Memᴰ·tail i) (List·Memᴰ·tail j)) in
+        either (any (λ y. same y x) l) (λ e. rw e later) (λ e. rw e (first e later))
+      where
+        first : any (λ y. same y x) l ≡ false → Apart (representatives l) → Apart (x ∷ representatives l)
+        first e later i zero a b r = absurd (omega arith)
+        first e later zero (suc j) a b r =
+            let q = getD (representatives l) j 0 in
+            let m = representatives-member l q (getD-member (representatives l) j 0 (omega arith)) in
+            true≢false (sym (member-any (λ y. same y x) l q m (t q x (List·Memᴰ·tail m) (List·Memᴰ·head refl) .1 (back x q r))) ∙ e)
+        first e later (suc i) (suc j) a b r = later i j (omega arith) (omega arith) r
 
 -- Classes by names.
 module _ (name : ℕ → ℕ) where

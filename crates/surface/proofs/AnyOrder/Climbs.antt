@@ -1,4 +1,4 @@
--- Splits by saddles alone. Posts are taken in from the highest on. A post with one upper run at most joins no bodies, so names that lead every post where its
+-- Splits by saddles alone. Posts are taken in from the highest on. A post with one upper run at most merges no bodies, so names that lead every post where its
 -- first upper start leads stay right; at a saddle the bodies of its upper starts are given one name, and there were as many as their names.
 use Prim.Native.Nat.{ℕ, zero, suc, _+_, _-_, _*_, _≤_, _<_}
 use native.Mathlib.Omega.{arith}
@@ -25,7 +25,7 @@ use Rattle.surface.proofs.AnyOrder.Classes.{any-some, classes-ext, clas
 use Rattle.surface.proofs.AnyOrder.Names.{Before, Named, way-same, name-before, named-more, named-none}
 use Rattle.surface.proofs.AnyOrder.Flood.{post-at, same-named, flood}
 use Rattle.surface.proofs.AnyOrder.Bodies.{rank-once, rank-lower}
-use Rattle.surface.proofs.AnyOrder.Joins.{beside, post-rise, up-sweep}
+use Rattle.surface.proofs.AnyOrder.Joins.{neighbours-edge, post-rise, up-sweep}
 
 module _ {rows columns : ℕ} {lower : ℕ → ℕ → Bool} {falls : ℕ → Bool} {pickDown pickUp : ℕ → List ℕ → ℕ} (net : Network rows columns lower falls pickDown pickUp) where
   abbrev n : ℕ
@@ -70,11 +70,11 @@ module _ {rows columns : ℕ} {lower : ℕ → ℕ → Bool} {falls : ℕ → Bo
     starts-bodies {name} p h d =
         let uppers = filter (λ q. lower p q) (neighbours rows columns falls p) in
         let all : (q : ℕ) → List·Memᴰ q uppers → any (λ m. eqb (name m) (name q)) (starts p) ≡ true =
-        λ q i. let k = filter-member (λ q. lower p q) _ q i in start-named p q h d (beside net p q (inl h) .0 (k .0)) (k .1) in
+        λ q i. let k = filter-member (λ q. lower p q) _ q i in start-named p q h d (neighbours-edge net p q (inl h) .0 (k .0)) (k .1) in
         let each : (m : ℕ) → List·Memᴰ m (starts p) → any (λ q. eqb (name q) (name m)) uppers ≡ true =
         λ m i.
         let a = law .above p m h i in
-        member-any (λ q. eqb (name q) (name m)) uppers m (member-filter (λ q. lower p q) _ m (beside net p m (inl h) .1 (a .0)) (a .1)) (eq-eqb (name m) (name m) refl) in
+        member-any (λ q. eqb (name q) (name m)) uppers m (member-filter (λ q. lower p q) _ m (neighbours-edge net p m (inl h) .1 (a .0)) (a .1)) (eq-eqb (name m) (name m) refl) in
         classes-ext _ (alike name) uppers (same-named (up-sweep net) p h d)
         ∙ omega (arith, classes-le name uppers (starts p) all, classes-le name (starts p) uppers each)
 

@@ -83,8 +83,8 @@ module _ {rows columns : ℕ} {lower : ℕ → ℕ → Bool} {falls : ℕ → Bo
     high-colour v e = rw e
 
     -- what an edge joins on one side has one colour
-    pub like : (v w : ℕ) → Edge rows columns falls v w → (v ≡ p → ⊥) → (w ≡ p → ⊥) → lower v p ≡ lower w p → colour v ≡ colour w
-    like v w e i j k =
+    pub edge-colour : (v w : ℕ) → Edge rows columns falls v w → (v ≡ p → ⊥) → (w ≡ p → ⊥) → lower v p ≡ lower w p → colour v ≡ colour w
+    edge-colour v w e i j k =
         let upper : (x : ℕ) → (x ≡ p → ⊥) → lower x p ≡ false → lower p x ≡ true = λ x i t. net .order .other x p i ∙ ap not t in
         either (lower w p)
         (λ t. rw (low-colour v (k ∙ t), low-colour w t, below .same v w e (k ∙ t) t))

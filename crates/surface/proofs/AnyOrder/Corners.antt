@@ -139,8 +139,8 @@ module _ {rows columns : ℕ} (s : Sides rows columns) (falls : ℕ → Bool) (�
       edges true x y = refl
       edges false x y = refl
 
-  pub corners : ((v q r : ℕ) → τ v q r ≡ τ v r q) → sum n (λ p. round (τ p) (ring rows columns falls p)) ≡ sum n (fromPost τ rows columns falls)
-  corners turned =
+  pub corners-sum : ((v q r : ℕ) → τ v q r ≡ τ v r q) → sum n (λ p. round (τ p) (ring rows columns falls p)) ≡ sum n (fromPost τ rows columns falls)
+  corners-sum turned =
       sum-ext n _ _ (λ p _. ring-sum (τ p) (turned p) s falls p)
       ∙ sum-eight n (at toNE) (at toSE) (at toSW) (at toNW) (at toE) (at toW) (at toS) (at toN)
       ∙ omega (arith, sum-NE, sum-SW, sum-NW, sum-W, sum-N)

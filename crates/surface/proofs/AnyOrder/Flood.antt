@@ -210,11 +210,11 @@ module _ {n m : ℕ} {edge : ℕ → ℕ → Type 0} {place : ℕ → ℕ} {lowe
       omega (arith, f .counts, all-joined, e, sum-at n c 1 j, ap one (eq-eqb (f .name virtualPit) virtualPit (f .fresh virtualPit (inr refl) h)))
 
 -- the bodies met, less one, or 0 where there is none
-pub one-less : (x : ℕ) → x - 1 + 1 ≡ x + one (eqb x 0)
-one-less zero = refl
-one-less (suc x) = rw (ne-eqb (suc x) 0 (omega arith)) (omega arith)
+pub less-one : (x : ℕ) → x - 1 + 1 ≡ x + one (eqb x 0)
+less-one zero = refl
+less-one (suc x) = rw (ne-eqb (suc x) 0 (omega arith)) (omega arith)
 
-pub less-one : (n : ℕ) (f : ℕ → ℕ) → sum n (λ p. f p - 1) + n ≡ sum n f + sum n (λ p. one (eqb (f p) 0))
+pub less-one-sum : (n : ℕ) (f : ℕ → ℕ) → sum n (λ p. f p - 1) + n ≡ sum n f + sum n (λ p. one (eqb (f p) 0))
 unfolding sum
-less-one zero f = refl
-less-one (suc n) f = omega (arith, less-one n f, one-less (f n))
+less-one-sum zero f = refl
+less-one-sum (suc n) f = omega (arith, less-one-sum n f, less-one (f n))

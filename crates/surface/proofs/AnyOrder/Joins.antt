@@ -27,8 +27,8 @@ use Rattle.surface.proofs.AnyOrder.Ways.{way-join}
 use Rattle.surface.proofs.AnyOrder.Network.{Network, mark-pit, mark-peak, balanced, some-post, corner-border}
 use Rattle.surface.proofs.AnyOrder.Classes.{classes-none}
 use Rattle.surface.proofs.AnyOrder.Names.{Before}
-use Rattle.surface.proofs.AnyOrder.Flood.{Sweep, joined-with-pit, joined-without, less-one}
-use Rattle.surface.proofs.AnyOrder.Bodies.{way-corner, sweep}
+use Rattle.surface.proofs.AnyOrder.Flood.{Sweep, joined-with-pit, joined-without, less-one-sum}
+use Rattle.surface.proofs.AnyOrder.Bodies.{way-corner, rank-sweep}
 
 module _ {rows columns : ℕ} {lower : ℕ → ℕ → Bool} {falls : ℕ → Bool} {pickDown pickUp : ℕ → List ℕ → ℕ} (net : Network rows columns lower falls pickDown pickUp) where
   abbrev n : ℕ
@@ -41,10 +41,10 @@ module _ {rows columns : ℕ} {lower : ℕ → ℕ → Bool} {falls : ℕ → Bo
   around = neighbours rows columns falls
 
   -- the neighbours are the other ends of edges, of the virtual pit too
-  pub beside : (v q : ℕ) → Vertex n v → List·Memᴰ q (around v) ↔ Joined v q
+  pub neighbours-edge : (v q : ℕ) → Vertex n v → List·Memᴰ q (around v) ↔ Joined v q
   unfolding neighbours
-  beside v q (inl h) = rw (ne-eqb v virtualPit (not-pit (net .sides) h)) (ring-edge (net .sides) falls v q h)
-  beside v q (inr e) =
+  neighbours-edge v q (inl h) = rw (ne-eqb v virtualPit (not-pit (net .sides) h)) (ring-edge (net .sides) falls v q h)
+  neighbours-edge v q (inr e) =
       rw (eq-eqb v virtualPit e) (
         λ m.
             let k = filter-member (isBorder rows columns) (listOf (λ p. p) n) q m in
@@ -78,11 +78,11 @@ module _ {rows columns : ℕ} {lower : ℕ → ℕ → Bool} {falls : ℕ → Bo
 
   pub down-sweep : Sweep n (n + 1) Joined depth (λ p. filter (λ q. lower q p) (around p)) (inOneBody lower around n)
   down-sweep =
-      sweep (net .sides) falls lower (net .order) around beside (n + 1) (λ p h. omega (arith, rank-le lower (net .order) n p h)) (λ _. pit-lowest)
+      rank-sweep (net .sides) falls lower around neighbours-edge (net .order) (n + 1) (λ p h. omega (arith, rank-le lower (net .order) n p h)) (λ _. pit-lowest)
 
-  pub down-all : sum n (bodiesAt lower around n) ≡ n
+  pub bodies-below-sum : sum n (bodiesAt lower around n) ≡ n
   unfolding bodiesAt
-  down-all = joined-with-pit down-sweep low way
+  bodies-below-sum = joined-with-pit down-sweep low way
     where
       low : depth virtualPit < n + 1
       low = omega (arith, pit-lowest 0 (inl (some-post net)), rank-le lower (net .order) n 0 (some-post net))
@@ -104,12 +104,12 @@ module _ {rows columns : ℕ} {lower : ℕ → ℕ → Bool} {falls : ℕ → Bo
 
   pub up-sweep : Sweep n (rise virtualPit) Joined rise (λ p. filter (λ q. lower p q) (around p)) (inOneBody (reversed lower) around n)
   up-sweep =
-      sweep (net .sides) falls (reversed lower) (reversed-strict (net .order)) around beside (rise virtualPit) post-rise
+      rank-sweep (net .sides) falls (reversed lower) around neighbours-edge (reversed-strict (net .order)) (rise virtualPit) post-rise
       (λ h v i. absurd (omega arith))
 
-  pub up-all : sum n (bodiesAt (reversed lower) around n) + 1 ≡ n
+  pub bodies-above-sum : sum n (bodiesAt (reversed lower) around n) + 1 ≡ n
   unfolding bodiesAt
-  up-all =
+  bodies-above-sum =
       joined-without up-sweep (omega arith) 0 (some-post net)
       (λ p h. way-corner (net .sides) falls _ (λ q k. (inl k, post-rise q k)) p p (omega arith) h)
 
@@ -133,15 +133,15 @@ module _ {rows columns : ℕ} {lower : ℕ → ℕ → Bool} {falls : ℕ → Bo
   pub joins-sum : sum n (λ p. bodiesAt lower around n p - 1) + 1 ≡ pits marks
   unfolding bodiesAt pits
   joins-sum =
-      omega (arith, less-one n (bodiesAt lower around n), down-all, count-none (inOneBody lower around n) (λ p q. lower q p) 2 (mark-pit net))
+      omega (arith, less-one-sum n (bodiesAt lower around n), bodies-below-sum, count-none (inOneBody lower around n) (λ p q. lower q p) 2 (mark-pit net))
 
   pub splits-sum : sum n (λ p. bodiesAt (reversed lower) around n p - 1) + 1 ≡ peaks marks
   unfolding bodiesAt peaks
   splits-sum =
       omega (
         arith,
-        less-one n (bodiesAt (reversed lower) around n),
-        up-all,
+        less-one-sum n (bodiesAt (reversed lower) around n),
+        bodies-above-sum,
         count-none (inOneBody (reversed lower) around n) (λ p q. lower p q) 1 (mark-peak net),
       )
 

@@ -24,9 +24,9 @@ use Rattle.surface.proofs.AnyOrder.Parity.{meets-even}
 use Rattle.surface.proofs.AnyOrder.ClosedWalks.{differ, closed-walk}
 use Rattle.surface.proofs.AnyOrder.Agreement.{last-member}
 use Rattle.surface.proofs.AnyOrder.Network.{Network, mark-pit, mark-peak}
-use Rattle.surface.proofs.AnyOrder.Flood.{one-less}
-use Rattle.surface.proofs.AnyOrder.Joins.{down-all, up-all, none-marked}
-use Rattle.surface.proofs.AnyOrder.Colours.{colour, like, bodies-coloured}
+use Rattle.surface.proofs.AnyOrder.Flood.{less-one}
+use Rattle.surface.proofs.AnyOrder.Joins.{bodies-below-sum, bodies-above-sum, none-marked}
+use Rattle.surface.proofs.AnyOrder.Colours.{colour, edge-colour, bodies-coloured}
 
 -- one sum is no greater than another where each step along a chain of members counts no more
 module _ (R : ℕ → ℕ → Type 0) (Member : ℕ → Type 0) (t u : ℕ → ℕ → ℕ) (less : (q r : ℕ) → R q r → Member q → Member r → t q r ≤ u q r) where
@@ -64,7 +64,7 @@ module _ {rows columns : ℕ} {lower : ℕ → ℕ → Bool} {falls : ℕ → Bo
       (λ q m. ring-other (net .sides) falls p q h m) (ring-touch (net .sides) falls p h))
     where
       less : (q r : ℕ) → Edge rows columns falls q r → (q ≡ p → ⊥) → (r ≡ p → ⊥) → differ (colour net p h) q r ≤ turn (lower q p) (lower r p)
-      less q r e i j = go (lower q p) (lower r p) (eqb (colour net p h q) (colour net p h r)) (λ k. eq-eqb _ _ (like net p h q r e i j k))
+      less q r e i j = go (lower q p) (lower r p) (eqb (colour net p h q) (colour net p h r)) (λ k. eq-eqb _ _ (edge-colour net p h q r e i j k))
         where
           go : (a b c : Bool) → (a ≡ b → c ≡ true) → one (not c) ≤ turn a b
           go a b true k = omega arith
@@ -79,7 +79,7 @@ module _ {rows columns : ℕ} {lower : ℕ → ℕ → Bool} {falls : ℕ → Bo
         arith,
         bodies-coloured net p h,
         closed-walk (colour net p h) (ring rows columns falls p)
-            (λ a b i e. omega (arith, meets-even (net .sides) falls p h (λ q. lower q p) (colour net p h) (like net p h) a b i)),
+            (λ a b i e. omega (arith, meets-even (net .sides) falls p h (λ q. lower q p) (colour net p h) (edge-colour net p h) a b i)),
         differ-le p h,
       )
 
@@ -93,8 +93,8 @@ module _ {rows columns : ℕ} {lower : ℕ → ℕ → Bool} {falls : ℕ → Bo
               arith,
               sum-add n (λ p. bodiesBelow p + bodiesAbove p) (λ p. bodiesBelow p + bodiesAbove p),
               sum-add n bodiesBelow bodiesAbove,
-              down-all net,
-              up-all net,
+              bodies-below-sum net,
+              bodies-above-sum net,
               sum-add n turns (λ _. 2),
               sum-const n 2,
               changes-sum lower (net .order) (net .sides) falls pit,
@@ -115,8 +115,8 @@ module _ {rows columns : ℕ} {lower : ℕ → ℕ → Bool} {falls : ℕ → Bo
         arith,
         bodies-turns p h,
         mark-turns lower (net .order) rows columns falls p (λ q m. ring-other (net .sides) falls p q h m),
-        one-less (bodiesBelow p),
-        one-less (bodiesAbove p),
+        less-one (bodiesBelow p),
+        less-one (bodiesAbove p),
         ap one (none-marked net (inOneBody lower (neighbours rows columns falls) n p) (λ q. lower q p) 2 p h (mark-pit net p h)),
         ap one (none-marked net (inOneBody (reversed lower) (neighbours rows columns falls) n p) (λ q. lower p q) 1 p h (mark-peak net p h)),
       )

@@ -91,8 +91,8 @@ module _ (n : ℕ) (member : ℕ → Bool) (around : ℕ → List ℕ) (inside :
       omega (arith, sum-le n (λ v. one (at k v)) (λ _. 1) (λ v _. one-le (at k v) true (λ _. refl)), sum-const n 1, mul-one n, one-le (at k virtualPit) true (λ _. refl))
 
   -- so as many rounds as there are vertices reach all that is reached
-  pub settled : Stable (suc n)
-  settled = ⊎-elim (λ (s : Stable (suc n)). s) (λ (h : suc (suc n) ≤ size (suc n)). absurd (omega (arith, size-most (suc n)))) (rounds (suc n))
+  rounds-stable : Stable (suc n)
+  rounds-stable = ⊎-elim (λ (s : Stable (suc n)). s) (λ (h : suc (suc n) ≤ size (suc n)). absurd (omega (arith, size-most (suc n)))) (rounds (suc n))
 
   module _ (edge : ℕ → ℕ → Type 0) (along : (v q : ℕ) → Vertex n v → List·Memᴰ q (around v) → edge q v) (known : (v q : ℕ) → Vertex n q → edge v q → List·Memᴰ v (around q)) (far : (v q : ℕ) → edge v q → Vertex n q) where
     abbrev Member : ℕ → Type 0
@@ -102,7 +102,7 @@ module _ (n : ℕ) (member : ℕ → Bool) (around : ℕ → List ℕ) (inside :
     pub way-reached : {x r : ℕ} → Way edge Member x r → at (suc n) x ≡ true → at (suc n) r ≡ true
     way-reached (here m) t = t
     way-reached (step {p = x} {q = y} m e w) t =
-        way-reached w (settled y (far x y e) (next-to (suc n) y x (known x y (far x y e) e) t (way-first w)))
+        way-reached w (rounds-stable y (far x y e) (next-to (suc n) y x (known x y (far x y e) e) t (way-first w)))
 
     snoc : {x y r : ℕ} → Way edge Member x y → edge y r → Member r → Way edge Member x r
     snoc (here m) e k = step m e (here k)

@@ -23,9 +23,9 @@ unfoldable pub roots : ℕ → (ℕ → ℕ) → ℕ
 roots n name = sum n (λ v. one (eqb (name v) v)) + one (eqb (name virtualPit) virtualPit)
 
 -- one more body with a name that was met before changes nothing
-pub again : (name : ℕ → ℕ) (r x : ℕ) (l : List ℕ) → any (λ q. eqb (name q) (name x)) l ≡ true → (v : ℕ) → merged name r (x ∷ l) v ≡ merged name r l v
+pub merged-known : (name : ℕ → ℕ) (r x : ℕ) (l : List ℕ) → any (λ q. eqb (name q) (name x)) l ≡ true → (v : ℕ) → merged name r (x ∷ l) v ≡ merged name r l v
 unfolding merged any
-again name r x l h v =
+merged-known name r x l h v =
     either (eqb (name x) (name v))
     (λ e. rw e (rw (sym (ap (λ (y : ℕ). any (λ q. eqb (name q) y) l) (eqb-true _ _ e)) ∙ h)))
     (λ e. rw e)
@@ -99,7 +99,7 @@ module _ (n : ℕ) (fits : n ≤ virtualPit) where
     merged-roots (x ∷ l) h =
         let ih = merged-roots l (λ q m. h q (List·Memᴰ·tail m)) in
         either (any (λ q. eqb (name q) (name x)) l)
-        (λ e. rw e (omega (arith, ih, roots-ext (merged name p (x ∷ l)) (merged name p l) (λ v _. again name p x l e v))))
+        (λ e. rw e (omega (arith, ih, roots-ext (merged name p (x ∷ l)) (merged name p l) (λ v _. merged-known name p x l e v))))
         (λ e.
         let r = h x (List·Memᴰ·head refl) in
         rw e (omega (arith, ih, roots-less (merged name p l) (merged name p (x ∷ l)) (name x) (r .0) (gone x l r e))))

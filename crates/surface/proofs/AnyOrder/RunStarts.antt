@@ -3,8 +3,9 @@
 use Prim.Native.Nat.{ℕ, _+_}
 use mathlib.Core.Path.{_≡_, refl, sym, _∙_, ap}
 use mathlib.Core.Logic.{_⊎_, ⊎-elim, inl, inr}
-use mathlib.Core.Bool.{Bool, true, false, cond, not, _&&_, _||_, true≢false, false≢true}
+use mathlib.Core.Bool.{Bool, true, false, cond, not, _&&_, _||_, true≢false}
 use mathlib.Core.List.{List, [], _∷_, _++_, List·Memᴰ, List·Memᴰ·head, List·Memᴰ·tail, List·Memᴰ·cases-cons, List·Memᴰ·not-nil, List·Memᴰ·append-cases, List·Memᴰ·eq-of-singleton, Memᴰ·append-right}
+use borrow.Author.Tests.{not-true}
 use Rattle.surface.specs.Lists.{keep, any, lastOr}
 use Rattle.surface.specs.Ways.{Way, here, step}
 use Rattle.surface.proofs.General.Bools.{either, or-left, or-right, and-right}
@@ -33,13 +34,9 @@ module _ (low : ℕ → Bool) where
   turnsUp-member b (x ∷ l) q m =
       ⊎-elim
       (λ (k : List·Memᴰ q (keep (b && not (low x)) x)).
-      let i = keep-member (b && not (low x)) x q k in (List·Memᴰ·head (i .1), ap low (i .1) ∙ not-true′ (low x) (and-right b (not (low x)) (i .0))))
+      let i = keep-member (b && not (low x)) x q k in (List·Memᴰ·head (i .1), ap low (i .1) ∙ not-true (low x) (and-right b (not (low x)) (i .0))))
       (λ (k : List·Memᴰ q (turnsUp low (low x) l)). let i = turnsUp-member (low x) l q k in (List·Memᴰ·tail (i .0), i .1))
       (List·Memᴰ·append-cases (keep (b && not (low x)) x) m)
-    where
-      not-true′ : (b : Bool) → not b ≡ true → b ≡ false
-      not-true′ true e = absurd (false≢true e)
-      not-true′ false e = refl
 
   any-none : (l : List ℕ) → any low l ≡ false → (q : ℕ) → List·Memᴰ q l → low q ≡ false
   unfolding any
@@ -84,14 +81,14 @@ module _ (low : ℕ → Bool) where
           (λ (f : (low y ≡ false) × Way R Above x y). inr (f .0, way-join (k .1) (f .1)))
           (first (k .0))
 
-    pub led : (y : ℕ) (l : List ℕ) → Chain R y l → ((q : ℕ) → List·Memᴰ q l → low q ≡ false → Above q) → (low y ≡ false → Above y)
+    chain-led : (y : ℕ) (l : List ℕ) → Chain R y l → ((q : ℕ) → List·Memᴰ q l → low q ≡ false → Above q) → (low y ≡ false → Above y)
         → (q : ℕ) → List·Memᴰ q l → low q ≡ false → Led (turnsUp low (low y) l) q ⊎ ((low y ≡ false) × Way R Above q y)
-    led y [] c up upY q m e = absurd (List·Memᴰ·not-nil m)
-    led y (x ∷ l) c up upY q m e =
+    chain-led y [] c up upY q m e = absurd (List·Memᴰ·not-nil m)
+    chain-led y (x ∷ l) c up upY q m e =
         ⊎-elim
         (λ (i : q ≡ x). rw i (first y x l (c .0) (up x (List·Memᴰ·head refl)) upY (sym (ap low i) ∙ e)))
         (λ (k : List·Memᴰ q l).
-        further y x l (c .0) (up x (List·Memᴰ·head refl)) upY q (led x l (c .1) (λ v n. up v (List·Memᴰ·tail n)) (up x (List·Memᴰ·head refl)) q k e))
+        further y x l (c .0) (up x (List·Memᴰ·head refl)) upY q (chain-led x l (c .1) (λ v n. up v (List·Memᴰ·tail n)) (up x (List·Memᴰ·head refl)) q k e))
         (List·Memᴰ·cases-cons m)
 
     -- the last member, where it is above and something before it is below
@@ -110,7 +107,7 @@ module _ (low : ℕ → Bool) where
         (λ t.
         ⊎-elim (λ (k : Led (turnsUp low (low y) (x ∷ x′ ∷ l)) (lastOr x′ l)). k)
         (λ (k : (low y ≡ false) × Way R Above (lastOr x′ l) y). absurd (true≢false (sym some ∙ rw (k .0, t) refl)))
-        (led y (x ∷ x′ ∷ l) c up upY (lastOr x′ l) (last-member x (x′ ∷ l)) e))
+        (chain-led y (x ∷ x′ ∷ l) c up upY (lastOr x′ l) (last-member x (x′ ∷ l)) e))
 
     -- in a circle that is all above nothing turns
     turnsUp-none : (l : List ℕ) → any low l ≡ false → turnsUp low false l ≡ []
@@ -131,11 +128,11 @@ module _ (low : ℕ → Bool) where
         (⊎-elim (λ (k : Led (turnsUp low (low y) (x ∷ l)) q). k)
         (λ (k : (low y ≡ false) × Way R Above q y).
         let f = last-led y x l c up upY (k .0) (rw (k .0, t) refl) in (f .0, (f .1 .0, way-join (k .1) (f .1 .1))))
-        (led y (x ∷ l) c up upY q m e)))
+        (chain-led y (x ∷ l) c up upY q m e)))
         (λ t.
         let lowY : low y ≡ false = any-none (x ∷ l) t y (last-member x l) in
         let lowX : low x ≡ false = any-none (x ∷ l) t x (List·Memᴰ·head refl) in
         rw t
         (⊎-elim (λ (k : Led (turnsUp low (low y) (x ∷ l)) q). absurd (List·Memᴰ·not-nil (rw (ap (λ (b : Bool). turnsUp low b (x ∷ l)) lowY ∙ turnsUp-none (x ∷ l) t) at (k .1 .0))))
         (λ (k : (low y ≡ false) × Way R Above q y). (x, (List·Memᴰ·head refl, way-join (k .1) (step (upY lowY) (c .0) (here (up x (List·Memᴰ·head refl) lowX))))))
-        (led y (x ∷ l) c up upY q m e)))
+        (chain-led y (x ∷ l) c up upY q m e)))

@@ -16,7 +16,7 @@ use Rattle.surface.proofs.AnyOrder.RingPlaces.{atE, atS, ring-place}
 use Rattle.surface.proofs.AnyOrder.RingEdges.{edge-sym, ring-edge}
 use Rattle.surface.proofs.AnyOrder.RingTouch.{edge-cell, edge-top, edge-right, edge-bottom, edge-left}
 use Rattle.surface.proofs.AnyOrder.RingSums.{when}
-use Rattle.surface.proofs.AnyOrder.Corners.{triangle, borderEdge, cell, fromPost, corners}
+use Rattle.surface.proofs.AnyOrder.Corners.{triangle, borderEdge, cell, fromPost, corners-sum}
 
 even-when : (i : Bool) (x : ℕ) → (i ≡ true → x % 2 ≡ 0) → when i x % 2 ≡ 0
 even-when true x e = e refl
@@ -82,4 +82,4 @@ module _ {rows columns : ℕ} (s : Sides rows columns) (falls : ℕ → Bool) wh
               edge-even a (a + columns) (ring-edge s falls a (a + columns) h .0 (ring-place rows columns falls a (a + columns) .1 (atS b refl))) (along-column a h b (and-right (not (bottom rows columns a)) _ i))
 
       pub corners-even : sum n (λ p. round (τ p) (ring rows columns falls p)) % 2 ≡ 0
-      corners-even = rw (corners s falls τ turned) (sum-even n (fromPost τ rows columns falls) post-even)
+      corners-even = rw (corners-sum s falls τ turned) (sum-even n (fromPost τ rows columns falls) post-even)

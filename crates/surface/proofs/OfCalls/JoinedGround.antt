@@ -1,4 +1,4 @@
--- The ridge round a pit, by computation.
+-- The rim round a pit, by computation.
 use mathlib.Core.Path.{refl}
 use Rattle.surface.specs.Lists.{listOf, filter, any, all, takeWhile, lastOr, firstNot}
 use Rattle.surface.specs.Plot.{virtualPit, drivenBefore, below}
@@ -11,4 +11,4 @@ use Rattle.surface.specs.JoinedGround.{JoinedGround}
 
 pub joined-ground : JoinedGround
 unfolding listOf filter any all takeWhile lastOr firstNot virtualPit drivenBefore below lowest lowestOr throughLowest members places ring ringOf runs runsFrom markFor mark markAt marksOf reached inOneBody classes bodiesAt neighbours joinsAt splitsAt joinsOf splitsOf verdict surveyVerdict joinsVerdict surveyMarks joinsList splitsList
-joined-ground = record { ridgeMarks = refl; ridgeJoins = refl; ridgeSplits = refl; ridgeMarksHighest = refl; ridgeJoinsHighest = refl; ridgeSplitsHighest = refl }
+joined-ground = record { rimMarks = refl; rimJoins = refl; rimSplits = refl; rimMarksHighest = refl; rimJoinsHighest = refl; rimSplitsHighest = refl }

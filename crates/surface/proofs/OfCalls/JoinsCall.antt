@@ -4,15 +4,15 @@ use mathlib.Core.Path.{_≡_, sym, _∙_, ap}
 use mathlib.Core.Bool.{Bool, true, false, _||_}
 use mathlib.Core.List.{List, [], _∷_}
 use lib.ListN.{length, getD}
-use Rattle.surface.specs.Plot.{Plot, posts, isHeight, Sides, Valid}
+use Rattle.surface.specs.Plot.{Plot, posts, below, reversed, isHeight, Sides, Valid}
 use Rattle.surface.specs.Marks.{markAt, marksOf, multiplicity, pits, peaks, saddles}
-use Rattle.surface.specs.Bodies.{joinsAt, splitsAt, joinsOf, splitsOf}
+use Rattle.surface.specs.Bodies.{BodiesLessOne, joinsAt, splitsAt, joinsOf, splitsOf}
 use Rattle.surface.specs.Refusals.{verdict, rowOf, isNot, row4, leading, surveyVerdict, joinsVerdict}
 use Rattle.surface.specs.Calls.{surveyAnswer, surveyMarks, joinsAnswer, joinsList, splitsList}
 use Rattle.surface.specs.Joins.{JoinsAndSplits}
 use Rattle.surface.proofs.General.Bools.{or-left, or-right}
 use Rattle.surface.proofs.General.ListOf.{getD-listOf}
-use Rattle.surface.proofs.OfPlots.Joins.{one-body, joins-total, splits-total, both-total, post-joins-splits}
+use Rattle.surface.proofs.OfPlots.Joins.{plot-one-body, bodies-less-one, joins-total, splits-total, both-total, post-joins-splits}
 use Rattle.surface.proofs.OfCalls.Verdicts.{passed, row-holds, row-passed, leads-refused, leads-passed, settled-refused, settled-accepted}
 use Rattle.surface.proofs.OfCalls.Accepted.{SheetPasses, test-equal, rows-valid, led-sized}
 use Rattle.surface.proofs.OfCalls.MarkCalls.{valid-survey, survey-filled, survey-served}
@@ -70,8 +70,10 @@ pub joins-and-splits : JoinsAndSplits
 unfolding joinsAnswer
 joins-and-splits pl joins splits e =
     record {
-      bodiesBelow = one-body pl sides false;
-      bodiesAbove = one-body pl sides true;
+      bodiesBelow = plot-one-body pl sides false;
+      bodiesAbove = plot-one-body pl sides true;
+      joinsBodies = λ p h. rw (filled .0) (joins-bodies p h);
+      splitsBodies = λ p h. rw (filled .1) (splits-bodies p h);
       joinsSum = λ marks m. rw (filled .0, counts marks m) (joins-total pl sides);
       splitsSum = λ marks m. rw (filled .1, counts marks m) (splits-total pl sides);
       bothSum = λ marks m. rw (filled .0, filled .1, counts marks m) (both-total pl sides);
@@ -96,6 +98,12 @@ joins-and-splits pl joins splits e =
     counts : (marks : List ℕ) → length marks ≡ posts pl → let m = marksOf pl in
         surveyAnswer pl marks ≡ record { code = 0; place = 0; peaks = peaks m; pits = pits m; saddles = saddles m }
     counts marks m = rw (marked marks m) at (survey-served pl marks (surveyed marks m))
+
+    joins-bodies : (p : ℕ) → p < posts pl → BodiesLessOne pl (below pl) p (getD (joinsOf pl) p 0)
+    joins-bodies p h = unfold joinsOf joinsAt in rw (getD-listOf (joinsAt pl) (posts pl) p 0 h) (bodies-less-one pl sides false p h)
+
+    splits-bodies : (p : ℕ) → p < posts pl → BodiesLessOne pl (reversed (below pl)) p (getD (splitsOf pl) p 0)
+    splits-bodies p h = unfold splitsOf splitsAt in rw (getD-listOf (splitsAt pl) (posts pl) p 0 h) (bodies-less-one pl sides true p h)
 
     each : (p : ℕ) → p < posts pl → getD (joinsOf pl) p 0 + getD (splitsOf pl) p 0 ≡ multiplicity (getD (marksOf pl) p 0)
     each p h =
