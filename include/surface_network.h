@@ -73,10 +73,10 @@
 extern "C" {
 #endif
 
-/* Version of this header: three numbers, text, and one number, 40300 for 4.3.0. An
+/* Version of this header: three numbers, text, and one number, 40200 for 4.2.0. An
    installation takes it from the first three lines. That of the archive: sn_version. */
 #define SN_VERSION_MAJOR 4
-#define SN_VERSION_MINOR 3
+#define SN_VERSION_MINOR 2
 #define SN_VERSION_PATCH 0
 #define SN_VERSION \
     SN_TEXT(SN_VERSION_MAJOR) "." SN_TEXT(SN_VERSION_MINOR) "." SN_TEXT(SN_VERSION_PATCH)

@@ -16,7 +16,7 @@ const PLACES: i32 = 2048;
 const LOWEST_KEY: i64 = 2048000000;
 
 // The keys of a post and of the eight round it. Where there is no neighbour it is the post's own, which is never chosen before another.
-#[derive(Drop)]
+#[derive(Clone, Copy)]
 pub struct Block {
     pub post: i32,
     pub n: i32,

@@ -9,7 +9,7 @@ use next::step::next_at;
 use surface::{Grid, Spacings, VIRTUAL_PIT};
 
 // Where a walk stands, at a post or in the virtual pit, and whether it goes up.
-#[derive(Drop)]
+#[derive(Clone, Copy)]
 pub struct Walk {
     pub post: usize,
     pub up: bool,

@@ -14,7 +14,7 @@ use survey_file::read_survey;
 use text::{put_head, put_refused};
 
 // The plot and its spacings, all 0 where the sheet or the file was refused, and how many bytes are written.
-#[derive(Drop)]
+#[derive(Clone, Copy)]
 pub struct Begun {
     pub grid: Grid,
     pub spacings: Spacings,

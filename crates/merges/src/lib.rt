@@ -34,7 +34,7 @@ fn link(heights: &[i32], grid: Grid, list: &mut [u16], a: usize, b: usize) -> us
 }
 
 // A body by its end, and how many more than one it was made of.
-#[derive(Drop)]
+#[derive(Clone, Copy)]
 pub struct Body {
     pub end: usize,
     pub splits: u8,

@@ -7,7 +7,7 @@ ghost use Rattle.tally.specs.Tally.{Counted};
 ghost use Rattle.retally.specs.Room.{max_copy};
 
 use marks::mark_all;
-use redraw::redraw;
+use survey::redraw::redraw;
 use surface::Grid;
 use tally::{Tally, count};
 
@@ -15,7 +15,7 @@ use tally::{Tally, count};
 const MAX_COPY: usize = 720;
 
 // The counts before and after.
-#[derive(Drop)]
+#[derive(Clone, Copy)]
 pub struct BeforeAfter {
     pub before: Tally,
     pub after: Tally,

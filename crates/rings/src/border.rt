@@ -6,7 +6,7 @@ ghost use Rattle.rings.specs.Corners.{borders_of};
 
 use surface::Grid;
 
-#[derive(Drop)]
+#[derive(Clone, Copy)]
 pub struct Borders {
     pub top: bool,
     pub bottom: bool,

@@ -8,7 +8,7 @@ use crate::border::Borders;
 use crate::cell::falls_back;
 use surface::Grid;
 
-#[derive(Drop)]
+#[derive(Clone, Copy)]
 pub struct Corners {
     pub ne: bool,
     pub se: bool,

@@ -10,7 +10,7 @@ use crate::corner::{Corners, corners_of};
 use surface::{Grid, VIRTUAL_PIT};
 
 // The first `len` of the members are the ring's.
-#[derive(Drop)]
+#[derive(Clone, Copy)]
 pub struct Ring {
     pub members: [usize; 8],
     pub len: usize,

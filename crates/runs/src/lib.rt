@@ -14,7 +14,7 @@ use slope::first_of;
 use surface::{Grid, Spacings};
 
 // Where the line of a saddle and a run goes to from the saddle; not found where the saddle has no such run.
-#[derive(Drop)]
+#[derive(Clone, Copy)]
 pub struct Start {
     pub found: bool,
     pub post: usize,

@@ -16,7 +16,7 @@ use text::put_line;
 pub const POST_ROOM: usize = 960;
 
 // The first post whose lines are not written, and how many bytes are.
-#[derive(Drop)]
+#[derive(Clone, Copy)]
 pub struct Put {
     pub post: usize,
     pub bytes: usize,

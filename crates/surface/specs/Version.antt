@@ -2,4 +2,4 @@
 use Rattle.std.specs.Prelude.{ℕ, ◌+◌, ◌*◌}
 
 unfoldable pub version : ℕ
-version = 4 * 10000 + 3 * 100 + 0
+version = 4 * 10000 + 2 * 100 + 0

@@ -3,7 +3,7 @@
 // The version of the library, which sn_version and the lister tell. The header has it too, and the tests hold the two to each other.
 pub const VERSION_MAJOR: u32 = 4;
 
-pub const VERSION_MINOR: u32 = 3;
+pub const VERSION_MINOR: u32 = 2;
 
 pub const VERSION_PATCH: u32 = 0;
 
@@ -51,14 +51,14 @@ pub const MAX_SPACING: u32 = 1000;
 
 // The spacings, in centimetres: how far east the next post of a row stands, and how far south the next post of a column. (C has them as along_row and
 // along_column.)
-#[derive(Drop)]
+#[derive(Clone, Copy)]
 pub struct Spacings {
     pub east: u32,
     pub south: u32,
 }
 
 // The sides of a plot whose heights are lent beside it, and whether its cells are cut through their highest posts.
-#[derive(Drop)]
+#[derive(Clone, Copy)]
 pub struct Grid {
     pub rows: usize,
     pub columns: usize,
@@ -67,7 +67,7 @@ pub struct Grid {
 
 // What every call answers: the refusal's number and place, 0 and 0 where it was accepted, and then its values, all 0 where it was refused.
 #[repr(C)]
-#[derive(Drop)]
+#[derive(Clone, Copy)]
 pub struct Answer {
     pub code: u32,
     pub place: u32,
@@ -75,7 +75,7 @@ pub struct Answer {
 
 // sn_settings, and what every call makes of its settings sheet: the rule, and how many bytes the plot's name has
 #[repr(C)]
-#[derive(Drop)]
+#[derive(Clone, Copy)]
 pub struct Sheet {
     pub code: u32,
     pub place: u32,
@@ -85,7 +85,7 @@ pub struct Sheet {
 
 // sn_survey
 #[repr(C)]
-#[derive(Drop)]
+#[derive(Clone, Copy)]
 pub struct Counts {
     pub code: u32,
     pub place: u32,
@@ -96,7 +96,7 @@ pub struct Counts {
 
 // sn_trial: the counts that hold, and those that would hold. (C has the last three as new_peaks, new_pits and new_saddles.)
 #[repr(C)]
-#[derive(Drop)]
+#[derive(Clone, Copy)]
 pub struct TrialCounts {
     pub code: u32,
     pub place: u32,
@@ -110,7 +110,7 @@ pub struct TrialCounts {
 
 // sn_ring
 #[repr(C)]
-#[derive(Drop)]
+#[derive(Clone, Copy)]
 pub struct RingMark {
     pub code: u32,
     pub place: u32,
@@ -120,7 +120,7 @@ pub struct RingMark {
 
 // sn_next_down, sn_next_up
 #[repr(C)]
-#[derive(Drop)]
+#[derive(Clone, Copy)]
 pub struct Next {
     pub code: u32,
     pub place: u32,
@@ -129,7 +129,7 @@ pub struct Next {
 
 // sn_thalweg, sn_ridge
 #[repr(C)]
-#[derive(Drop)]
+#[derive(Clone, Copy)]
 pub struct Entries {
     pub code: u32,
     pub place: u32,
@@ -138,7 +138,7 @@ pub struct Entries {
 
 // sn_read_survey, with the spacings
 #[repr(C)]
-#[derive(Drop)]
+#[derive(Clone, Copy)]
 pub struct Size {
     pub code: u32,
     pub place: u32,

@@ -1,2 +1,3 @@
--- What the first rows of the table leave.
+-- What the first rows of the table leave; a block of marks stored afresh.
 mod Marked
+mod Painted

@@ -1,4 +1,5 @@
 // The two calls that write marks: survey and re-shoot.
+pub mod redraw;
 mod verdict;
 
 ghost use Rattle.std.specs.Prelude.{◌≡◌};

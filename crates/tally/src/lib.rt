@@ -7,7 +7,7 @@ ghost use Rattle.tally.specs.Tally.{Counted};
 
 use surface::{PEAK, PIT};
 
-#[derive(Drop)]
+#[derive(Clone, Copy)]
 pub struct Tally {
     pub peaks: u32,
     pub pits: u32,

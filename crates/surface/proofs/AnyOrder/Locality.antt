@@ -41,6 +41,7 @@ a-corner columns a u (Memᴰ.head e) = (nw, e)
 a-corner columns a u (Memᴰ.tail (Memᴰ.head e)) = (ne, e)
 a-corner columns a u (Memᴰ.tail (Memᴰ.tail (Memᴰ.head e))) = (sw, e)
 a-corner columns a u (Memᴰ.tail (Memᴰ.tail (Memᴰ.tail (Memᴰ.head e)))) = (se, e)
+a-corner columns a u (Memᴰ.tail (Memᴰ.tail (Memᴰ.tail (Memᴰ.tail h)))) = elim h [ ]
 
 module _ {rows columns : ℕ} (s : Sides rows columns) where
   a_neighbour : {p r k q : ℕ} → Offset rows columns p r k q → r ≤ 2 → k ≤ 2 → Touching rows columns p q

@@ -86,4 +86,4 @@ pub good-series : (pl : Plot) (s : Marked) (calls : List Reshoot) → Good pl s 
 unfolding plain_all after_calls Kept
 good-series pl s [] g k = g
 good-series pl s (c ∷ cs) g k =
-    good-series (over pl (plain pl.heights c)) (after_call s c) cs (good-after pl s g c k.0) (kept-over pl _ _ cs k.1)
+    good-series (over pl (plain pl.heights c)) (after_call s c) cs (good-after pl s g c k.0) (kept-over pl (plain pl.heights c) (after_call s c) cs k.1)

@@ -1,0 +1,12 @@
+-- The loop's invariant: the path from e ends where that from p does. The measure: the steps left.
+use Prim.Native.Nat.{◌<◌}
+use mathlib.Core.Path.{◌≡◌}
+use Rattle.paths.specs.Paths.{path_end}
+use Rattle.paths.proofs.Shorter.{steps_left}
+use Rattle.paths.proofs.end_of.Given as goal
+
+abbrev pub invariant-loop-i : goal.invariant-loop-i
+invariant-loop-i l = (l.e < 65536) × (path_end l.list l.e ≡ path_end l.list l.p)
+
+abbrev pub decreases-loop-i : goal.decreases-loop-i
+decreases-loop-i l = steps_left l.list l.e

@@ -1,0 +1,17 @@
+-- The loop's invariant: the posts of the rows met are settled.
+use Prim.Native.Nat.{ℕ, ◌-◌, ◌*◌, ◌≤◌}
+use mathlib.Core.Bool.{Bool}
+use Rattle.surface.specs.Plot.{row}
+use Rattle.paths.specs.Paths.{InRow, Settled}
+use Rattle.paths.proofs.Turns.{met, Before}
+use Rattle.paths.proofs.shorten.Given as goal
+
+-- the row of turn j
+abbrev pub RowOf : ℕ → ℕ → Bool → ℕ → ℕ → Type 0
+RowOf rows columns up j = InRow (met up rows j * columns) columns
+
+abbrev pub invariant-loop-i : goal.invariant-loop-i
+invariant-loop-i l = (l.i ≤ l.rows) × Settled l.initial.list l.list (Before l.i (RowOf l.rows l.columns l.up))
+
+abbrev pub decreases-loop-i : goal.decreases-loop-i
+decreases-loop-i l = l.rows - l.i

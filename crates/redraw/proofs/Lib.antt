@@ -1,2 +1,0 @@
--- A block of marks stored afresh.
-mod Painted

@@ -1,0 +1,7 @@
+-- Ten digits are enough.
+use Rattle.surface.specs.Lister.{decimal}
+use Rattle.text.proofs.put_decimal.Goals as goal
+
+pub returns : goal.returns
+unfolding decimal
+returns c = c.put_digits.ensures
