@@ -69,7 +69,7 @@ part-fits a e = rw (+ℤ_idr (a *ℤ pos 2048)) at (key_fits a 0 (omega arith) e
 
 -- a key that a local holds is told by its bits
 pub bits_of : (k : ℤ) → mag k < 2147483648 → to_z w32 (of_z w32 k) ≡ k
-bits_of k h = to_z-of_z (sfits_of h)
+bits_of k h = to_z-of_z {w = w32} (sfits_of h)
 
 -- two blocks of the same keys
 pub same_block : (p n ne e se s sw w nw p' n' ne' e' se' s' sw' w' nw' : ℤ)

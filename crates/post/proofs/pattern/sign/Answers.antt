@@ -7,9 +7,7 @@ use mir.Val.{bool_byte}
 use Rattle.surface.specs.Lists.{one}
 use Rattle.surface.specs.Flags.{sign_by}
 use Rattle.surface.proofs.General.Bools.{flag}
-use borrow.Author.Rules.{rules}
-use Rattle.post.proofs.pattern.sign.Statement.{statement}
-use Rattle.post.proofs.pattern.sign.Tie as tie
+use Rattle.post.proofs.pattern.sign.Goals as goal
 
 and-bits : (x y : Bool) → bit_and (bool_byte x) (bool_byte y) ≡ bool_byte (x && y)
 and-bits true true = refl
@@ -27,17 +25,14 @@ or-bits false false = refl
 as-flag : {n : ℕ} (x : Bool) → n ≡ bool_byte x → (n ≡ one x) × (n ≤ 1)
 as-flag x e = rw e (flag x)
 
-returns : tie.Need-returns
+pub returns-then-highest : goal.returns-then-highest
+unfolding sign_by
+returns-then-highest c =
+    let a = c.args in
+    rw c.if-highest.true (as-flag (a.side && (a.corner || a.after)) (ap (bit_and (bool_byte a.side)) (or-bits a.corner a.after) ∙ and-bits a.side (a.corner || a.after)))
+
+pub returns : goal.returns
 unfolding sign_by
 returns c =
-    let a = c.before.args in
-    rw c.if1.true (as-flag (a.side && (a.corner || a.after)) (ap (bit_and (bool_byte a.side)) (or-bits a.corner a.after) ∙ and-bits a.side (a.corner || a.after)))
-
-returns-2 : tie.Need-returns-2
-unfolding sign_by
-returns-2 c =
-    let a = c.before.args in
-    rw c.if1.false (as-flag (a.side || (a.corner && a.after)) (ap (bit_or (bool_byte a.side)) (and-bits a.corner a.after) ∙ or-bits a.side (a.corner && a.after)))
-
-pub sign-spec : {M : Type 1} → statement M
-sign-spec = tie.close (tie.spec (search rules) (search rules) (search rules) returns returns-2)
+    let a = c.args in
+    rw c.if-highest.false (as-flag (a.side || (a.corner && a.after)) (ap (bit_or (bool_byte a.side)) (and-bits a.corner a.after) ∙ or-bits a.side (a.corner && a.after)))

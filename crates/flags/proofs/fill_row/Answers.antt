@@ -1,0 +1,26 @@
+use Prim.Native.Nat.{◌+◌, ◌-◌}
+use native.Mathlib.Omega.{arith}
+use mathlib.Core.Path.{◌≡◌, refl, ◌∙◌}
+use lib.ListN.{length-set}
+use Rattle.surface.specs.Lists.{stores}
+use Rattle.surface.proofs.General.Stores.{store-next}
+use Rattle.flags.proofs.fill_row.Goals as goal
+
+pub loop-c-init : goal.loop-c-init
+unfolding stores
+loop-c-init c = (omega arith, refl, refl)
+
+pub loop-c-preserved : goal.loop-c-preserved
+loop-c-preserved c =
+    let l = c.loop-c in
+    let a = c.args in (
+      omega arith,
+      length-set l.flags _ _ ∙ l.invariant.1,
+      store-next _ a.at l.c (l.c + 1) l.flags a.flags.now (a.at + l.c) _ l.invariant.2 refl refl refl,
+    )
+
+pub returns : goal.returns
+returns c =
+    let l = c.loop-c in
+    let e : l.c ≡ c.args.n = omega arith in
+    rw e at l.invariant.2
