@@ -100,7 +100,7 @@ listed : (a : At-loop-j) → length a.loop-j.list ≡ length a.args.list.now
 listed a = a.loop-j.invariant.2.rising.size ∙ sym a.requires.rising.0.size
 
 pub returns-after-loop-j : goal.returns-after-loop-j
-returns-after-loop-j c = all (goal.at.returns-after-loop-j c).At-loop-j (omega (arith, starts-few c.args.pattern (omega (arith, c.fits.pattern))))
+returns-after-loop-j c = all (goal.at.returns-after-loop-j c).At-loop-j (omega (arith, starts-few c.args.pattern (omega (arith, c.ranges.pattern.fits))))
 
 pub returns-then-place-eq8 : goal.returns-then-place-eq8
 returns-then-place-eq8 c =

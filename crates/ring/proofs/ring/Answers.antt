@@ -35,8 +35,9 @@ mark_at-mark-requires c = (accepted (goal.at.mark_at-mark-requires c).After-grid
 
 pub returns : goal.returns
 returns c =
-    let d = served (goal.at.returns c).After-grid_of-grid in
+    let after = (goal.at.returns c).After-grid_of-grid in
+    let d = served after in
     let s = ring-served _ _ _ d.passed in
     let m = c.mark_at-mark.ensures in
-    let k = c.runs_for.ensures ∙ ap runs_for m ∙ sym (mark-runs _ _ (accepted (goal.at.returns c).After-grid_of-grid).post_of) in
+    let k = c.runs_for.ensures ∙ ap runs_for m ∙ sym (mark-runs _ _ (accepted after).post_of) in
     rw (← c.read_sheet-said.ensures, d.same_plot) record { value = rw (k, m) (sym s.0); ring_after = c.put_codes.ensures ∙ sym s.1 }

@@ -31,11 +31,14 @@ unfolding ring_verdict
 returns-then-ring-ne-RING_LENGTH c = sym (leads-passed (_ ∷ _ ∷ _ ∷ _ ∷ []) _ tt (sized (goal.at.returns-then-ring-ne-RING_LENGTH c).Else-lead-ne0) ∙ row-holds _ _ (ap not (ne_eqb _ _ c.if-ring-ne-RING_LENGTH.true)))
 
 pub range_verdict-requires : goal.range_verdict-requires
-range_verdict-requires c = let k = led-sized (asked (goal.at.range_verdict-requires c).Else-lead-ne0) (sized (goal.at.range_verdict-requires c).Else-lead-ne0) in omega (arith, k.0, k.1)
+range_verdict-requires c =
+    let branch = (goal.at.range_verdict-requires c).Else-lead-ne0 in
+    let k = led-sized (asked branch) (sized branch) in omega (arith, k.0, k.1)
 
 pub returns : goal.returns
 unfolding ring_verdict
 returns c =
+    let branch = (goal.at.returns c).Else-lead-ne0 in
     c.range_verdict.ensures
-    ∙ range-posts (asked (goal.at.returns c).Else-lead-ne0) _ (led-sized (asked (goal.at.returns c).Else-lead-ne0) (sized (goal.at.returns c).Else-lead-ne0)).1
-    ∙ sym (leads-passed (_ ∷ _ ∷ _ ∷ _ ∷ []) _ tt (sized (goal.at.returns c).Else-lead-ne0) ∙ row-passed _ _ (ap not (eq-eqb _ _ c.if-ring-ne-RING_LENGTH.false)))
+    ∙ range-posts (asked branch) _ (led-sized (asked branch) (sized branch)).1
+    ∙ sym (leads-passed (_ ∷ _ ∷ _ ∷ _ ∷ []) _ tt (sized branch) ∙ row-passed _ _ (ap not (eq-eqb _ _ c.if-ring-ne-RING_LENGTH.false)))

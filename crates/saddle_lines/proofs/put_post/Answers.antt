@@ -8,7 +8,7 @@ use Rattle.runs.specs.Runs.{Saddle}
 use Rattle.saddle_lines.proofs.Chunks.{marks-long, mark-known, downward, upward, no-saddle, both-written}
 use borrow.Author.Tests.{le-leb, lt-leb}
 use Rattle.saddle_lines.proofs.put_post.Goals as goal
-use Rattle.saddle_lines.proofs.put_post.Goals.{After-ring_at-ring, After-shared_slice_known-4-1, Start}
+use Rattle.saddle_lines.proofs.put_post.Goals.{After-ring_at-ring, Start}
 
 marked : (c : Start)
     → let a = c.args in get_or a.marks.now a.p 0 ≡ mark_at (plot_of a.grid a.heights.now) a.p
@@ -41,12 +41,10 @@ put_runs-end-requires c =
 
 pub put_runs-requires : goal.put_runs-requires
 put_runs-requires c =
-    let at-start = start (goal.at.put_runs-requires c).After-shared_slice_known-4-1 in
     let w = c.put_runs-end in
-    (upward at-start.requires.0 (saddle (goal.at.put_runs-requires c).After-ring_at-ring), omega (arith, at-start.requires.2, w.auto, w.ensures.place, w.ensures.bound))
+    (upward c.requires.0 (saddle (goal.at.put_runs-requires c).After-ring_at-ring), omega (arith, c.requires.2, w.auto, w.ensures.place, w.ensures.bound))
 
 pub returns : goal.returns
 returns c =
-    let at-start = start (goal.at.returns c).After-shared_slice_known-4-1 in
-    let a = at-start.args in
+    let a = c.args in
     both-written (plot_of a.grid a.heights.now) a.spacings a.p (saddle (goal.at.returns c).After-ring_at-ring).saddle c.put_runs-end.ensures c.put_runs.ensures

@@ -42,7 +42,8 @@ loop-post-init c =
 
 pub put_post-bytes-requires : goal.put_post-bytes-requires
 put_post-bytes-requires c =
-    let v = c.loop-post.invariant in (c.requires.0, left (goal.at.put_post-bytes-requires c).In-loop-post, omega (arith, room (goal.at.put_post-bytes-requires c).In-loop-post, v.1, v.3.size))
+    let turn = (goal.at.put_post-bytes-requires c).In-loop-post in
+    let v = c.loop-post.invariant in (c.requires.0, left turn, omega (arith, room turn, v.1, v.3.size))
 
 pub overflow_add-post : goal.overflow_add-post
 overflow_add-post c =
@@ -54,13 +55,14 @@ loop-post-smaller c =
 
 pub loop-post-preserved : goal.loop-post-preserved
 loop-post-preserved c =
+    let turn = (goal.at.loop-post-preserved c).In-loop-post in
     let l = c.loop-post in
     let a = c.args in
-    let w = c.Put-post in (
+    let w = c.put_post-bytes in (
       l.invariant.0,
       l.invariant.1,
-      omega (arith, left (goal.at.loop-post-preserved c).In-loop-post),
-      going_more (plot_of a.grid a.heights.now) a.spacings a.from l.invariant.3 (room (goal.at.loop-post-preserved c).In-loop-post) w.ensures (omega (arith, w.auto)),
+      omega (arith, left turn),
+      going_more (plot_of a.grid a.heights.now) a.spacings a.from l.invariant.3 (room turn) w.ensures (omega (arith, w.auto)),
     )
 
 pub returns : goal.returns

@@ -1,3 +1,4 @@
+use borrow.Author.Tests.{not-true, not-false}
 use native.Mathlib.Omega.{arith}
 use mathlib.Core.Path.{◌≡◌, refl}
 use Prim.Native.Nat.{◌-◌, ◌<◌}
@@ -14,7 +15,7 @@ use Rattle.saddle_lines.proofs.put_runs.Goals.{Else-not-start}
 there : (c : Else-not-start) → c.loop-grid.run < 8
 there c =
     let s = c.requires.0 in
-    omega (arith, few-runs s, numbered s c.line_start-start.ensures c.if-not-start.false)
+    omega (arith, few-runs s, numbered s c.line_start-start.ensures (not-false _ c.if-not-start.false))
 
 pub loop-grid-init : goal.loop-grid-init
 loop-grid-init c =
@@ -27,7 +28,7 @@ line_start-start-requires c = let s = c.requires.0 in (s.saddle, s.spaced)
 
 pub end_from-end-requires : goal.end_from-end-requires
 end_from-end-requires c =
-    vertex c.requires.0 c.line_start-start.ensures c.if-not-start.false
+    vertex c.requires.0 c.line_start-start.ensures (not-false _ c.if-not-start.false)
 
 pub overflow_cast-p : goal.overflow_cast-p
 overflow_cast-p c =
@@ -48,7 +49,7 @@ loop-grid-smaller c =
 pub loop-grid-preserved : goal.loop-grid-preserved
 loop-grid-preserved c =
     let k = c.line_start-start.ensures in
-    let e = c.if-not-start.false in (
+    let e = not-false _ c.if-not-start.false in (
       omega (arith, numbered c.requires.0 k e),
       line-more c.requires.0 k e c.args.letter _ c.end_from-end.ensures c.loop-grid.invariant.1 c.put_line-next.ensures,
       omega (arith, c.put_line-next.auto, c.loop-grid.invariant.2),
@@ -59,5 +60,5 @@ unfolding run_lines
 returns c =
     let a = c.args in
     let n : c.loop-grid.run ≡ length (runs_of (toward (plot_of a.grid a.heights.now) a.spacings a.up) a.p) =
-    omega (arith, c.loop-grid.invariant.0, none c.requires.0 c.line_start-start.ensures c.if-not-start.true) in
+    omega (arith, c.loop-grid.invariant.0, none c.requires.0 c.line_start-start.ensures (not-true _ c.if-not-start.true)) in
     rw (← n) (within (omega (arith, few-runs c.requires.0)) c.loop-grid.invariant.1)

@@ -9,7 +9,7 @@ is_below-below-requires c = (c.requires.0.valid, c.requires.1, inl c.requires.0.
 
 pub returns : goal.returns
 unfolding member_code
-returns c = c.code_by.ensures ∙ rw (c.is_below-below.ensures, c.is_Tied.ensures)
+returns c = c.code_by.ensures ∙ rw (c.is_below-below.ensures, c.is_tied-tied.ensures)
 
 pub is_tied-tied-requires : goal.is_tied-tied-requires
 is_tied-tied-requires c = c.requires
