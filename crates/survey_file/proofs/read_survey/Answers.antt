@@ -30,7 +30,9 @@ returns-then-verdict-ne0 c =
     let r = read-refused _ _ n in record { value = rw e (sym r.0); heights_after = sym r.1 }
 
 pub read_heights-requires : goal.read_heights-requires
-read_heights-requires c = let f = found (goal.at.read_heights-requires c).Else-verdict-ne0 in let h = long (goal.at.read_heights-requires c).Else-verdict-ne0 in record { least_size_in_bounds = h.0; heights_in_bounds = omega (arith, f.size, f.room) }
+read_heights-requires c =
+    let branch = (goal.at.read_heights-requires c).Else-verdict-ne0 in
+    let f = found branch in let h = long branch in record { least_size_in_bounds = h.0; heights_in_bounds = omega (arith, f.size, f.room) }
 
 pub returns : goal.returns
 returns c =

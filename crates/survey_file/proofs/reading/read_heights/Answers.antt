@@ -31,14 +31,16 @@ bits c = search rules
 
 pub loop-i-preserved : goal.loop-i-preserved
 loop-i-preserved c =
+    let head = (goal.at.loop-i-preserved c).At-loop-i in
     let r : to_z w32 (of_z w32 c.round.result) ≡ c.round.result = search rules in
     let v = r ∙ (rw (bits (goal.at.loop-i-preserved c).After-tenths_at) at c.round.ensures) ∙ ap rounded (rw c.header_size-header.ensures at c.tenths_at.ensures) in
-    let h : c.loop-i.i < length (H₀ (goal.at.loop-i-preserved c).At-loop-i) = omega (arith, kept (goal.at.loop-i-preserved c).At-loop-i) in
-    (omega arith, filled_more (height (F (goal.at.loop-i-preserved c).At-loop-i)) (H₀ (goal.at.loop-i-preserved c).At-loop-i) c.loop-i.i c.loop-i.heights _ h c.loop-i.invariant.1 v)
+    let h : c.loop-i.i < length (H₀ head) = omega (arith, kept head) in
+    (omega arith, filled_more (height (F head)) (H₀ head) c.loop-i.i c.loop-i.heights _ h c.loop-i.invariant.1 v)
 
 pub returns : goal.returns
 returns c =
-    filled-all (height (F (goal.at.returns c).At-loop-i)) (H₀ (goal.at.returns c).At-loop-i) c.loop-i.i c.loop-i.heights (omega (arith, kept (goal.at.returns c).At-loop-i)) c.loop-i.invariant.1 ∙ sym (heights_in-is (F (goal.at.returns c).At-loop-i) _)
+    let head = (goal.at.returns c).At-loop-i in
+    filled-all (height (F head)) (H₀ head) c.loop-i.i c.loop-i.heights (omega (arith, kept head)) c.loop-i.invariant.1 ∙ sym (heights_in-is (F head) _)
 
 pub loop-i-init : goal.loop-i-init
 loop-i-init c = (omega arith, filled_none _ _)

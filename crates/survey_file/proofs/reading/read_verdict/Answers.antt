@@ -99,13 +99,16 @@ equal-both n a b e = (eqb-true n a (not-false _ (or_left _ _ e)), eqb-true n b (
 
 pub first_out-post-requires : goal.first_out-post-requires
 first_out-post-requires c =
+    let branch = (goal.at.first_out-post-requires c).Else-header-ne0 in
     let k = equal-both c.word_at-stated.result _ _ c.if-stated-file.false in
-    let h = header-bounds (version_in (F (goal.at.first_out-post-requires c).Else-header-ne0)) in
-    let l = long (goal.at.first_out-post-requires c).Else-header-ne0 in
+    let h = header-bounds (version_in (F branch)) in
+    let l = long branch in
     (c.header_size-before.ensures, omega (arith, h, l, k.0, k.1, c.header_size-before.ensures))
 
 pub returns-then-post-posts : goal.returns-then-post-posts
-returns-then-post-posts c = rw (out (goal.at.returns-then-post-posts c).After-first_out-post) (sym (passed2 (goal.at.returns-then-post-posts c).Else-heights-posts ∙ row-holds _ _ (ranged (goal.at.returns-then-post-posts c).After-first_out-post ∙ lt-ltb _ _ c.if-post-posts.true)))
+returns-then-post-posts c =
+    let after = (goal.at.returns-then-post-posts c).After-first_out-post in
+    rw (out after) (sym (passed2 (goal.at.returns-then-post-posts c).Else-heights-posts ∙ row-holds _ _ (ranged after ∙ lt-ltb _ _ c.if-post-posts.true)))
 
 pub returns : goal.returns
 returns c = sym (passed2 (goal.at.returns c).Else-heights-posts ∙ row-passed _ _ (ranged (goal.at.returns c).After-first_out-post ∙ le-ltb _ _ c.if-post-posts.false) ∙ none_left)

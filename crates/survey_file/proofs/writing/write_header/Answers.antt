@@ -8,11 +8,11 @@ use Rattle.survey_file.specs.Layout.{header}
 use Rattle.survey_file.proofs.writing.write_header.Goals as goal
 use Rattle.survey_file.proofs.writing.write_header.Goals.{After-put_half, After-put_word}
 
-kept : (c : After-put_word) → length c.put_word.new.0 ≡ length c.args.file.now
+kept : (c : After-put_word) → length c.put_word.new.file ≡ length c.args.file.now
 kept c = c.put_word.auto.file ∙ length-set c.args.file.now 0 2
 
 -- and after the two sides
-filled : (c : After-put_half) → length c.put_half.new.0 ≡ length c.args.file.now
+filled : (c : After-put_half) → length c.put_half.new.file ≡ length c.args.file.now
 filled c = c.put_half.auto.file ∙ simp length-set (kept (goal.at.After-put_half c).After-put_word)
 
 count : (n : ℕ) → 6 + 4 * n ≡ 11 + 4 * n - 5

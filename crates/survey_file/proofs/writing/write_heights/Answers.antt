@@ -44,13 +44,15 @@ filed-requires c =
 
 pub loop-i-preserved : goal.loop-i-preserved
 loop-i-preserved c =
+    let head = (goal.at.loop-i-preserved c).At-loop-i in
     let n = rw (bits (goal.at.loop-i-preserved c).After-filed-arg-1) at c.filed.ensures in
-    (omega arith, rw (c.put_word.ensures, c.loop-i.invariant.1) (filed-more (H (goal.at.loop-i-preserved c).At-loop-i) (F₀ (goal.at.loop-i-preserved c).At-loop-i) c.loop-i.i _ (omega arith) n))
+    (omega arith, rw (c.put_word.ensures, c.loop-i.invariant.1) (filed-more (H head) (F₀ head) c.loop-i.i _ (omega arith) n))
 
 pub returns : goal.returns
 returns c =
-    let end : c.loop-i.i ≡ length (H (goal.at.returns c).At-loop-i) = omega arith in
-    rw (c.loop-i.invariant.1, end, take-length (H (goal.at.returns c).At-loop-i))
+    let head = (goal.at.returns c).At-loop-i in
+    let end : c.loop-i.i ≡ length (H head) = omega arith in
+    rw (c.loop-i.invariant.1, end, take-length (H head))
 
 pub overflow_mul-i : goal.overflow_mul-i
 overflow_mul-i c = omega (arith, kept (goal.at.overflow_mul-i c).At-loop-i)
