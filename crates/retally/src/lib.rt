@@ -7,8 +7,8 @@ ghost use Rattle.tally.specs.Tally.{Counted};
 ghost use Rattle.retally.specs.Room.{max_copy};
 
 use marks::mark_all;
-use survey::redraw::redraw;
 use surface::Grid;
+use survey::redraw::redraw;
 use tally::{Tally, count};
 
 // The most heights that are copied: those of six rows of 120 columns.
