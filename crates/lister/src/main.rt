@@ -1,4 +1,6 @@
 // docs/SPECIFICATION.md, "Lister": prints the surface network of the survey file on standard input, by the settings sheet plot.set.
+#![tactic(auto)]
+
 mod arguments;
 mod input;
 mod output;
