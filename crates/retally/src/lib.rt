@@ -1,4 +1,6 @@
 // The counts of the marks of a small plot, before and after a new height at one post. Its heights are only read: the marks are redrawn by a copy.
+#![tactic(auto)]
+
 ghost use Rattle.std.specs.Prelude.{◌≡◌, true, map, ◌≤◌, length};
 ghost use Rattle.surface.specs.Plot.{plot_of, posts, reshot, is_height, PostOf};
 ghost use Rattle.surface.specs.Marks.{redrawn};

@@ -59,10 +59,9 @@ returns c =
     let after = (goal.at.returns c).After-grid_of-grid in
     let s = served after in
     let k = parts-filled _ _ _ _ s.passed in
-    rw (← c.read_sheet-said.ensures) (
-      c.verdict-answer.ensures,
-      rw s.same_plot (
-        c.shorten.ensures ∙ dales-named (lent after) c.fill_nexts.ensures ∙ sym k.0,
-        c.shorten-2.ensures ∙ hills-named (lent after) c.fill_nexts.ensures ∙ sym k.1,
-      ),
-    )
+    rw (← c.read_sheet-said.ensures)
+    record {
+      value = c.verdict-answer.ensures;
+      dales_after = rw s.same_plot (c.shorten.ensures ∙ dales-named (lent after) c.fill_nexts.ensures ∙ sym k.0);
+      hills_after = rw s.same_plot (c.shorten-2.ensures ∙ hills-named (lent after) c.fill_nexts.ensures ∙ sym k.1);
+    }

@@ -1,4 +1,3 @@
--- The loop's invariant: the patterns of the rows above row r are stored, and the upper halves of its own are known.
 use Prim.Native.Nat.{ℕ, zero, suc, ◌+◌, ◌-◌, ◌*◌, ◌<◌}
 use native.Mathlib.Omega.{arith}
 use native.Mathlib.Nat.{add-mul, one-mul, zero-mul, mul-le-mul_right}
@@ -6,12 +5,12 @@ use mathlib.Core.Path.{◌≡◌, refl, sym, ap, ◌∙◌}
 use mathlib.Core.Bool.{Bool, true, false}
 use lib.ListN.{get_or, replicate}
 use Rattle.surface.specs.Lists.{stores}
-use Rattle.surface.specs.Plot.{plot_of, is_odd}
+use Rattle.surface.specs.Plot.{is_odd}
 use Rattle.surface.proofs.General.Stores.{stores-join, stores-all}
 use Rattle.surface.proofs.AnyOrder.Grid.{row_is}
 use Rattle.flags.specs.Rows.{RowOf}
 use Rattle.flags.proofs.Beneath.{row_of}
-use Rattle.patterns.proofs.Steps.{State, head-next, row-stored}
+use Rattle.patterns.proofs.Steps.{head-next, row-stored}
 use Rattle.patterns.proofs.pattern_plot.Goals as goal
 use Rattle.patterns.proofs.pattern_plot.Goals.{In-loop-r}
 
@@ -20,13 +19,6 @@ all_alike : (x : Bool) (n c : ℕ) → c < n → get_or (replicate n x) c false 
 all_alike x zero c h = absurd (omega arith)
 all_alike x (suc n) zero h = refl
 all_alike x (suc n) (suc c) h = all_alike x n c (omega arith)
-
-abbrev invariant-loop : tie.invariant-loop
-invariant-loop heights grid patterns₀ rows columns width side₀ south₀ fall₀ rise₀ under₀ upper₀ pattern₀ r₀ patterns side south fall rise under upper pattern r =
-    State (plot_of grid heights) patterns₀ patterns side south fall rise under upper pattern width r
-
-abbrev decreases-loop : tie.decreases-loop
-decreases-loop heights grid patterns₀ rows columns width side₀ south₀ fall₀ rise₀ under₀ upper₀ pattern₀ r₀ patterns side south fall rise under upper pattern r = rows - r
 
 row : (i : In-loop-r) → let g = i.args.grid in RowOf g.rows g.columns (i.loop-r.r * g.columns)
 row i = let g = i.args.grid in row_of g.rows g.columns i.loop-r.r i.loop-r-test.true
@@ -73,12 +65,12 @@ loop-r-init c =
       wide = omega arith;
       narrow = omega (arith, f.sides);
       patterns_long = refl;
-      side_long = t.auto.1.1.1.1.1.1.0;
-      south_long = t.auto.1.1.1.0;
-      fall_long = t.auto.1.1.1.1.0;
-      rise_long = t.auto.1.1.1.1.1.0;
-      under_long = t.auto.1.1.1.1.1.1.0;
-      upper_long = t.auto.1.1.1.1.1.1.1.0;
+      side_long = t.auto.under;
+      south_long = t.auto.south;
+      fall_long = t.auto.fall;
+      rise_long = t.auto.rise;
+      under_long = t.auto.under;
+      upper_long = t.auto.upper;
       pattern_long = refl;
       head = λ _. rw (zero-mul k) t.ensures;
       done = rw (zero-mul k);
@@ -112,10 +104,10 @@ pattern_row-requires c =
       flags =
           record {
             side_long = omega (arith, v.side_long, v.narrow);
-            south_long = omega (arith, s.auto.1.1.1.1.0, v.south_long, v.narrow);
-            fall_long = omega (arith, s.auto.1.1.1.1.1.0, v.fall_long, v.narrow);
-            rise_long = omega (arith, s.auto.1.1.1.1.1.1.0, v.rise_long, v.narrow);
-            under_long = omega (arith, s.auto.1.1.1.1.1.1.1.0, v.under_long, v.narrow);
+            south_long = omega (arith, s.auto.south, v.south_long, v.narrow);
+            fall_long = omega (arith, s.auto.fall, v.fall_long, v.narrow);
+            rise_long = omega (arith, s.auto.rise, v.rise_long, v.narrow);
+            under_long = omega (arith, s.auto.under, v.under_long, v.narrow);
           };
       upper_long = omega (arith, v.upper_long, v.narrow);
       pattern_long = omega (arith, v.pattern_long, v.narrow);
@@ -149,20 +141,20 @@ loop-r-preserved c =
       wide = v.wide;
       narrow = v.narrow;
       patterns_long = c.copy_row.auto.patterns ∙ v.patterns_long;
-      side_long = s.auto.1.1.1.1.1.1.1.0 ∙ v.under_long;
-      south_long = s.auto.1.1.1.1.0 ∙ v.south_long;
-      fall_long = s.auto.1.1.1.1.1.0 ∙ v.fall_long;
-      rise_long = s.auto.1.1.1.1.1.1.0 ∙ v.rise_long;
-      under_long = s.auto.1.1.1.1.1.1.1.0 ∙ v.under_long;
-      upper_long = p.auto.0 ∙ v.upper_long;
-      pattern_long = p.auto.1.1.1.1.1.1.1.0 ∙ v.pattern_long;
+      side_long = s.auto.under ∙ v.under_long;
+      south_long = s.auto.south ∙ v.south_long;
+      fall_long = s.auto.fall ∙ v.fall_long;
+      rise_long = s.auto.rise ∙ v.rise_long;
+      under_long = s.auto.under ∙ v.under_long;
+      upper_long = p.auto.upper ∙ v.upper_long;
+      pattern_long = p.auto.pattern ∙ v.pattern_long;
       head =
           λ m.
           rw next
-          (head-next f (row turn) v.wide s.ensures h.along (omega (arith, next, mul-le-mul_right k m, add-mul (l.r + 1) 1 k, one-mul k, f.sides)) l.upper _ (omega (arith, v.upper_long, v.narrow)) p.ensures.1);
+          (head-next f (row turn) v.wide s.ensures h.along (omega (arith, next, mul-le-mul_right k m, add-mul (l.r + 1) 1 k, one-mul k, f.sides)) l.upper _ (omega (arith, v.upper_long, v.narrow)) p.ensures.upper_after);
       done =
           stores-join _ 0 (l.r * k) (l.r * k) k ((l.r + 1) * k) a.patterns.now _ _ v.done
-          (row-stored f (row turn) v.wide s.ensures l.upper h.above h.along l.pattern _ _ _ (omega (arith, v.pattern_long, v.narrow)) p.ensures.0 c.copy_row.ensures)
+          (row-stored f (row turn) v.wide s.ensures l.upper h.above h.along l.pattern _ _ _ (omega (arith, v.pattern_long, v.narrow)) p.ensures.pattern_after c.copy_row.ensures)
           (omega arith)
           next;
     }

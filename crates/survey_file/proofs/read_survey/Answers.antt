@@ -39,7 +39,8 @@ returns c =
     let a = accepted (goal.at.returns c).Else-verdict-ne0 in record { value = rw (c.wide.ensures.0, c.wide-2.ensures.0, c.spacings_in-spacings.ensures) (sym (read-served _ _ a)); heights_after = c.read_heights.ensures ∙ sym (read-filled _ _ a) }
 
 pub spacings_in-spacings-requires : goal.spacings_in-spacings-requires
-spacings_in-spacings-requires c = long (goal.at.spacings_in-spacings-requires c).Else-verdict-ne0
+spacings_in-spacings-requires c =
+    let h = long (goal.at.spacings_in-spacings-requires c).Else-verdict-ne0 in record { least_size_in_bounds = h.0; file_in_bounds = h.1 }
 
 pub bounds-file-5 : goal.bounds-file-5
 bounds-file-5 c = omega (arith, long (goal.at.bounds-file-5 c).Else-verdict-ne0)

@@ -27,14 +27,15 @@ unfolding write_answer
 returns-then-verdict-ne0 c = let e = c.write_verdict-verdict.ensures in record { value = e; file_after = sym (write-refused _ _ _ (rw e at c.if-verdict-ne0.true)) }
 
 pub write_header-requires : goal.write_header-requires
-write_header-requires c = let g = given c.before in record { sides = g.valid.sides; written_in_bounds = omega (arith, g.room) }
+write_header-requires c = let g = given (goal.at.write_header-requires c).Else-verdict-ne0 in record { sides = g.valid.sides; written_in_bounds = omega (arith, g.room) }
 
 pub write_heights-requires : goal.write_heights-requires
 write_heights-requires c =
-    let g = given c.before.before.before.before.before in
+    let g = given (goal.at.write_heights-requires c).Else-verdict-ne0 in
     record { heights_value = omega (arith, g.valid.size, g.room, c.write_header.auto.file); heights_value_2 = g.valid.in_range }
 
 pub returns : goal.returns
 unfolding write_answer
 returns c =
-    record { value = c.write_verdict-verdict.ensures; file_after = file-stored _ _ _ _ _ (given c.before.before.before.before.before.before.before.before) c.write_header.ensures c.write_heights.ensures ∙ sym (write-filled _ _ _ (accepted c.before.before.before.before.before.before.before.before)) }
+    let branch = (goal.at.returns c).Else-verdict-ne0 in
+    record { value = c.write_verdict-verdict.ensures; file_after = file-stored _ _ _ _ _ (given branch) c.write_header.ensures c.write_heights.ensures ∙ sym (write-filled _ _ _ (accepted branch)) }

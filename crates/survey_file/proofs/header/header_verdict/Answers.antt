@@ -64,7 +64,7 @@ pub returns-then-posts_in-eq0 : goal.returns-then-posts_in-eq0
 returns-then-posts_in-eq0 c = sym (passed3 (goal.at.returns-then-posts_in-eq0 c).Else-file-header ∙ row-holds _ _ (ap not (posts-none _ (sym c.posts_in.ensures.0 ∙ c.if-posts_in-eq0.true))))
 
 pub returns-then-not-is_spaced : goal.returns-then-not-is_spaced
-returns-then-not-is_spaced c = sym (passed4 (goal.at.returns-then-not-is_spaced c).Else-posts_in-eq0 ∙ row-holds _ _ (spaced (goal.at.returns-then-not-is_spaced c).After-is_spaced ∙ c.if-not-is_spaced.true))
+returns-then-not-is_spaced c = sym (passed4 (goal.at.returns-then-not-is_spaced c).Else-posts_in-eq0 ∙ row-holds _ _ (spaced (goal.at.returns-then-not-is_spaced c).After-is_spaced ∙ ap not c.if-not-is_spaced.true))
 
 pub returns : goal.returns
-returns c = sym (passed4 (goal.at.returns c).Else-posts_in-eq0 ∙ row-passed _ _ (spaced (goal.at.returns c).After-is_spaced ∙ c.if-not-is_spaced.false) ∙ none_left)
+returns c = sym (passed4 (goal.at.returns c).Else-posts_in-eq0 ∙ row-passed _ _ (spaced (goal.at.returns c).After-is_spaced ∙ ap not c.if-not-is_spaced.false) ∙ none_left)

@@ -64,7 +64,7 @@ module _ (c : After-word_at-stated) where
   tested = rw (← c.word_at-stated.ensures, ← count)
 
 passed1 : (c : Else-stated-file) → Passed (goal.at.Else-stated-file c).Else-header-ne0 1
-passed1 c = passed0 (goal.at.Else-stated-file c).Else-header-ne0 ∙ row-passed _ _ (tested c.before ∙ c.if-stated-file.false)
+passed1 c = passed0 (goal.at.Else-stated-file c).Else-header-ne0 ∙ row-passed _ _ (tested (goal.at.Else-stated-file c).After-word_at-stated ∙ c.if-stated-file.false)
 
 passed2 : (c : Else-heights-posts) → Passed (goal.at.Else-heights-posts c).Else-header-ne0 2
 passed2 c =
@@ -89,7 +89,7 @@ returns-then-header-ne0 c =
     h ∙ sym (leads-refused (_ ∷ _ ∷ _ ∷ _ ∷ _ ∷ []) _ tt (λ z. c.if-header-ne0.true (code h ∙ z)))
 
 pub returns-then-stated-file : goal.returns-then-stated-file
-returns-then-stated-file c = sym (passed0 (goal.at.returns-then-stated-file c).Else-header-ne0 ∙ row-holds _ _ (tested c.before ∙ c.if-stated-file.true))
+returns-then-stated-file c = sym (passed0 (goal.at.returns-then-stated-file c).Else-header-ne0 ∙ row-holds _ _ (tested (goal.at.returns-then-stated-file c).After-word_at-stated ∙ c.if-stated-file.true))
 
 pub returns-then-heights-posts : goal.returns-then-heights-posts
 returns-then-heights-posts c = sym (passed1 (goal.at.returns-then-heights-posts c).Else-stated-file ∙ row-holds _ _ (ap not (ne_eqb _ _ (λ z. c.if-heights-posts.true (z ∙ sym (posts (goal.at.returns-then-heights-posts c).After-posts_in-posts))))))

@@ -23,17 +23,17 @@ unfolding header bytes_of half_bytes
 returns c =
     rw (c.put_half-2.ensures, c.put_half.ensures, c.put_word.ensures, count)
 
-pub overflow_add-rows : goal.overflow_add-rows
-overflow_add-rows c = simp length-set (omega arith)
+pub put_word-requires : goal.put_word-requires
+put_word-requires c = simp length-set (omega arith)
 
-pub overflow_cast-file : goal.overflow_cast-file
-overflow_cast-file c = omega (arith, kept (goal.at.overflow_cast-file c).After-put_word)
-
-pub overflow_cast-file-2 : goal.overflow_cast-file-2
-overflow_cast-file-2 c = simp length-set (omega (arith, kept (goal.at.overflow_cast-file-2 c).After-put_word))
+pub bounds-file-5 : goal.bounds-file-5
+bounds-file-5 c = omega (arith, kept (goal.at.bounds-file-5 c).After-put_word)
 
 pub bounds-file-6 : goal.bounds-file-6
 bounds-file-6 c = simp length-set (omega (arith, kept (goal.at.bounds-file-6 c).After-put_word))
 
+pub put_half-requires : goal.put_half-requires
+put_half-requires c = simp length-set (omega (arith, kept (goal.at.put_half-requires c).After-put_word))
+
 pub put_half-requires-2 : goal.put_half-requires-2
-put_half-requires-2 c = c.put_half-2.auto.file ∙ filled (goal.at.put_half-requires-2 c).After-put_half
+put_half-requires-2 c = omega (arith, filled (goal.at.put_half-requires-2 c).After-put_half)

@@ -43,11 +43,14 @@ unfolding write_verdict
 returns-then-size-ne0 c = let e = c.spaced_plot_verdict-size.ensures in e ∙ sym (leads-refused (_ ∷ _ ∷ _ ∷ []) _ tt (rw e at c.if-size-ne0.true))
 
 pub returns-then-file-heights : goal.returns-then-file-heights
-returns-then-file-heights c = sym (passed c.before ∙ row-holds _ _ (ap not (ne_eqb _ _ (λ e. c.if-file-heights.true (e ∙ sym (size (goal.at.returns-then-file-heights c).Else-size-ne0))))))
+returns-then-file-heights c =
+    let branch = (goal.at.returns-then-file-heights c).Else-size-ne0 in
+    sym (passed branch ∙ row-holds _ _ (ap not (ne_eqb _ _ (λ e. c.if-file-heights.true (e ∙ sym (size branch))))))
 
 pub returns : goal.returns
 returns c =
-    c.heights_verdict.ensures ∙ sym (passed c.before.before ∙ row-passed _ _ (ap not (eq-eqb _ _ (c.if-file-heights.false ∙ size (goal.at.returns c).Else-size-ne0))))
+    let branch = (goal.at.returns c).Else-size-ne0 in
+    c.heights_verdict.ensures ∙ sym (passed branch ∙ row-passed _ _ (ap not (eq-eqb _ _ (c.if-file-heights.false ∙ size branch))))
 
 pub overflow_mul-heights : goal.overflow_mul-heights
 overflow_mul-heights c = omega (arith, sized c)
