@@ -4,7 +4,7 @@ use Prim.Native.Nat.{ℕ, ◌-◌, ◌*◌, ◌≤◌, ◌<◌}
 use borrow.Author.Tests.{ltb-true, leb-true}
 use lib.Dec.{ltb, leb}
 use lib.ListN.{length}
-use Rattle.surface.specs.Plot.{plot_of, posts}
+use Rattle.surface.specs.Plot.{plot_of}
 use Rattle.surface.proofs.General.Bools.{and_left, and_right}
 use Rattle.saddle_lines.specs.Lines.{post_room}
 use Rattle.saddle_lines.proofs.Chunks.{going-none, going_more, going_end}

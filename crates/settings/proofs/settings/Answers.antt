@@ -4,7 +4,7 @@ use Rattle.surface.specs.Calls.{sheet_says}
 use Rattle.surface.specs.declared.Sheet.{Sheet}
 use Rattle.settings.proofs.Sheets.{sheet-refused, room-refused, served, named_in, name-bytes}
 use Rattle.settings.proofs.settings.Goals as goal
-use Rattle.settings.proofs.settings.Goals.{Else-said-ne0, Start}
+use Rattle.settings.proofs.settings.Goals.{Else-said-ne0}
 
 code : {x y : Sheet} → x ≡ y → x.code ≡ y.code
 code e = ap (λ (x : Sheet). x.code) e

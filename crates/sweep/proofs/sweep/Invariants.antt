@@ -1,5 +1,5 @@
 -- The loop's invariant: all but i saddles were taken.
-use Prim.Native.Nat.{◌-◌, ◌≤◌}
+use Prim.Native.Nat.{◌≤◌}
 use Rattle.surface.specs.Plot.{plot_of, Valid}
 use Rattle.sweep.proofs.Sweeping.{Swept}
 use Rattle.sweep.proofs.sweep.Given as goal

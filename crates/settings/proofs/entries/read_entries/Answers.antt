@@ -7,7 +7,7 @@ use lib.ListN.{length, get_or}
 use Rattle.settings.proofs.Walk.{inside}
 use Rattle.settings.proofs.Says.{said-none, rule-refused, rule-whole, rule-said}
 use Rattle.settings.proofs.entries.read_entries.Goals as goal
-use Rattle.settings.proofs.entries.read_entries.Goals.{After-byte_at-3, Start}
+use Rattle.settings.proofs.entries.read_entries.Goals.{After-byte_at-3}
 
 pub returns-then-byte_at-ne-RULE : goal.returns-then-byte_at-ne-RULE
 returns-then-byte_at-ne-RULE c =
