@@ -1,7 +1,6 @@
-use Prim.Native.Nat.{◌+◌, ◌-◌}
+use Prim.Native.Nat.{◌+◌}
 use native.Mathlib.Omega.{arith}
 use mathlib.Core.Path.{◌≡◌, sym}
-use mathlib.Core.Logic.{⊎_elim}
 use lib.ListN.{set}
 use Rattle.surface.specs.Plot.{plot_of, virtual_pit, PostOf}
 use Rattle.surface.specs.Lines.{next, down}

@@ -1,7 +1,6 @@
 -- The loop's invariant: the posts of the rows met are settled.
 use Prim.Native.Nat.{ℕ, ◌-◌, ◌*◌, ◌≤◌}
 use mathlib.Core.Bool.{Bool}
-use Rattle.surface.specs.Plot.{row}
 use Rattle.paths.specs.Paths.{InRow, Settled}
 use Rattle.paths.proofs.Turns.{met, Before}
 use Rattle.paths.proofs.shorten.Given as goal

@@ -1,7 +1,7 @@
 use Prim.Native.Nat.{◌<◌}
 use native.Mathlib.Omega.{arith}
 use mathlib.Core.Path.{◌≡◌, refl, sym, ◌∙◌, ap}
-use mathlib.Core.Logic.{◌⊎◌, ⊎_elim, inl, inr}
+use mathlib.Core.Logic.{⊎_elim, inl, inr}
 use lib.ListN.{length}
 use Rattle.paths.specs.Paths.{follow, path_end}
 use Rattle.paths.proofs.Shorter.{shorter-none, shorter-told, goes_on, has-entry, read-end, read-nearer, store-end, stored}
