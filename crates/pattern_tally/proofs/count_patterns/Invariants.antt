@@ -5,7 +5,6 @@ use mathlib.Core.List.{map}
 use lib.Dec.{eqb}
 use lib.ListN.{length, drop}
 use Rattle.surface.specs.Lists.{count, total}
-use Rattle.surface.specs.Marks.{peaks, pits}
 use Rattle.surface.specs.Patterns.{changes_in}
 use Rattle.pattern_tally.proofs.count_patterns.Given as goal
 
