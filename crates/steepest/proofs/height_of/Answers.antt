@@ -2,11 +2,7 @@
 use mir.Facts.{to_z-of_z}
 use mir.ValLaws.{sfits_le}
 use lib.Signed.{mag_shr}
-use Rattle.steepest.proofs.height_of.Statement.{statement}
-use Rattle.steepest.proofs.height_of.Tie as tie
+use Rattle.steepest.proofs.height_of.Goals as goal
 
-returns : tie.Need-returns
+pub returns : goal.returns
 returns c = rw (to_z-of_z c.ranges.k) (to_z-of_z (sfits_le (mag_shr c.args.k 2048) c.ranges.k))
-
-pub height-of-spec : {M : Type 1} → statement M
-height-of-spec = tie.close (tie.spec returns)

@@ -5,16 +5,18 @@ use mathlib.Core.Path.{◌≡◌}
 use lib.Dec.{leb}
 use borrow.Author.Tests.{leb-true, leb-false, le-leb, lt-leb}
 use Rattle.surface.proofs.General.Bools.{either}
-use Rattle.steepest.proofs.at_least.Statement.{statement}
-use Rattle.steepest.proofs.at_least.Tie as tie
+use Rattle.steepest.proofs.at_least.Goals as goal
 
 halved : (x y : ℕ) → y < 9223372036854775808 → leb 9223372036854775808 (x + 9223372036854775808 - y) ≡ leb y x
 halved x y h =
     either (leb y x) (λ e. rw e (le-leb 9223372036854775808 (x + 9223372036854775808 - y) (omega (arith, leb-true y x e))))
     (λ e. rw e (lt-leb 9223372036854775808 (x + 9223372036854775808 - y) (omega (arith, leb-false y x e))))
 
-returns : tie.Need-returns
+pub returns : goal.returns
 returns c = halved c.args.x c.args.y c.requires.1
 
-pub at-least-spec : {M : Type 1} → statement M
-at-least-spec = tie.close (tie.spec (λ c. record { fits = omega (arith, c.requires) }) (λ c. omega (arith, c.requires)) returns)
+pub overflow_add-result : goal.overflow_add-result
+overflow_add-result c = record { fits = omega (arith, c.requires) }
+
+pub overflow_sub-result : goal.overflow_sub-result
+overflow_sub-result c = omega (arith, c.requires)
