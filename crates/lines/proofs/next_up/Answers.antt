@@ -1,0 +1,7 @@
+-- The law in one direction.
+use Rattle.surface.specs.Calls.{next_up_answer}
+use Rattle.lines.proofs.next_up.Goals as goal
+
+pub returns : goal.returns
+unfolding next_up_answer
+returns c = rw (← c.read_sheet-said.ensures) c.next_post.ensures

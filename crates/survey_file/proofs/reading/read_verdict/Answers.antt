@@ -1,0 +1,129 @@
+-- after the rows about what stands before the heights, the tests on the way say which row of the
+-- table is the first that holds.
+use Prim.Native.Nat.{ℕ, ◌+◌, ◌-◌, ◌*◌, ◌≤◌}
+use mathlib.Core.Path.{◌≡◌, refl, sym, ◌∙◌, ap}
+use mathlib.Core.Bool.{false, not, ◌||◌}
+use mathlib.Core.List.{List, [], ◌∷◌}
+use native.Mathlib.Omega.{arith}
+use borrow.Author.Tests.{not-false, eqb-true, eq-eqb, ne_eqb, ltb-false, lt-ltb, le-ltb}
+use lib.Dec.{ltb, eqb}
+use lib.IntN.{ℤ}
+use lib.ListN.{length, drop}
+use Rattle.surface.specs.Lists.{first_not}
+use Rattle.surface.specs.SurveyFile.{version_in, stated_count, count_for, tenths_of, is_tenths}
+use Rattle.surface.specs.Refusals.{Row, verdict, row3, row4, row12, read_verdict}
+use Rattle.surface.proofs.General.Bools.{or_left, or_right}
+use Rattle.surface.proofs.OfPlots.SurveyFile.{length-tenths_of}
+use Rattle.surface.proofs.OfCalls.FileCalls.{rows_in, columns_in, posts_in, header-bounds}
+use Rattle.surface.proofs.OfCalls.Verdicts.{code, passed, row-holds, row-passed, none_left, leads-refused, leads-passed}
+use Rattle.survey_file.specs.Layout.{least_size, header_rows}
+use Rattle.survey_file.proofs.Posts.{plot-posts}
+use Rattle.survey_file.proofs.reading.read_verdict.Goals as goal
+use Rattle.survey_file.proofs.reading.read_verdict.Goals.{After-first_out-post, After-posts_in-posts, After-word_at-stated, Else-header-ne0, Else-heights-posts, Else-stated-file}
+
+-- the rows that come last
+abbrev rows : List ℕ → List ℤ → List Row
+rows file hs =
+    row12 file (rows_in file) (columns_in file) ∷ row3 hs (posts_in file) ∷ row4 is_tenths (tenths_of file (posts_in file)) ∷ []
+
+-- the file passed those before; n of these do not hold
+module _ (c : Else-header-ne0) where
+  abbrev F : List ℕ
+  F = c.args.file.now
+
+  abbrev Passed : ℕ → Type 0
+  Passed n = let hs = c.args.heights.now in read_verdict F hs ≡ verdict (drop n (rows F hs))
+
+  led : (verdict (header_rows F)).code ≡ 0
+  led = sym (code c.header_verdict-header.ensures) ∙ c.if-header-ne0.false
+
+  long : least_size ≤ length F
+  long = ltb-false _ _ (passed (header_rows F) tt led 10)
+
+  passed0 : Passed 0
+  unfolding read_verdict
+  passed0 = leads-passed (header_rows F) _ tt led
+
+posts : (c : After-posts_in-posts) → c.posts_in-posts.result ≡ posts_in (F (goal.at.After-posts_in-posts c).Else-header-ne0)
+posts c =
+    let sides = not-false _ (passed (header_rows (F (goal.at.After-posts_in-posts c).Else-header-ne0)) tt (led (goal.at.After-posts_in-posts c).Else-header-ne0) 1) in
+    c.posts_in-posts.ensures.0 ∙ sym (plot-posts (F (goal.at.After-posts_in-posts c).Else-header-ne0) _ _ refl refl sides).0
+
+-- row 12, as the code asks it
+module _ (c : After-word_at-stated) where
+  abbrev counted : ℕ
+  counted = c.header_size-before.result - 5 + 4 * c.posts_in-posts.result
+
+  count : counted ≡ count_for (version_in (F (goal.at.After-word_at-stated c).Else-header-ne0)) (rows_in (F (goal.at.After-word_at-stated c).Else-header-ne0)) (columns_in (F (goal.at.After-word_at-stated c).Else-header-ne0))
+  count = omega (arith, header-bounds (version_in (F (goal.at.After-word_at-stated c).Else-header-ne0)), c.header_size-before.ensures, posts (goal.at.After-word_at-stated c).After-posts_in-posts)
+
+  tested :
+      (row12 (F (goal.at.After-word_at-stated c).Else-header-ne0) (rows_in (F (goal.at.After-word_at-stated c).Else-header-ne0)) (columns_in (F (goal.at.After-word_at-stated c).Else-header-ne0))).holds
+      ≡ (not (eqb c.word_at-stated.result (length (F (goal.at.After-word_at-stated c).Else-header-ne0) - 5)) || not (eqb c.word_at-stated.result counted))
+  unfolding stated_count
+  tested = rw (← c.word_at-stated.ensures, ← count)
+
+passed1 : (c : Else-stated-file) → Passed (goal.at.Else-stated-file c).Else-header-ne0 1
+passed1 c = passed0 (goal.at.Else-stated-file c).Else-header-ne0 ∙ row-passed _ _ (tested (goal.at.Else-stated-file c).After-word_at-stated ∙ c.if-stated-file.false)
+
+passed2 : (c : Else-heights-posts) → Passed (goal.at.Else-heights-posts c).Else-header-ne0 2
+passed2 c =
+    let a = c.args in
+    passed1 (goal.at.Else-heights-posts c).Else-stated-file ∙ row-passed _ _ (ap not (eq-eqb (length a.heights.now) (posts_in a.file.now) (omega (arith, posts (goal.at.Else-heights-posts c).After-posts_in-posts))))
+
+-- the first filed height that is out of range
+module _ (c : After-first_out-post) where
+  abbrev tenths : List ℤ
+  tenths = tenths_of (F (goal.at.After-first_out-post c).Else-header-ne0) (posts_in (F (goal.at.After-first_out-post c).Else-header-ne0))
+
+  out : c.first_out-post.result ≡ first_not is_tenths tenths
+  out = rw (posts (goal.at.After-first_out-post c).After-posts_in-posts) at c.first_out-post.ensures
+
+  ranged : (row4 is_tenths tenths).holds ≡ ltb c.first_out-post.result c.posts_in-posts.result
+  ranged = rw (← out, length-tenths_of (F (goal.at.After-first_out-post c).Else-header-ne0) (posts_in (F (goal.at.After-first_out-post c).Else-header-ne0)), ← posts (goal.at.After-first_out-post c).After-posts_in-posts)
+
+pub returns-then-header-ne0 : goal.returns-then-header-ne0
+unfolding read_verdict
+returns-then-header-ne0 c =
+    let h = c.header_verdict-header.ensures in
+    h ∙ sym (leads-refused (_ ∷ _ ∷ _ ∷ _ ∷ _ ∷ []) _ tt (λ z. c.if-header-ne0.true (code h ∙ z)))
+
+pub returns-then-stated-file : goal.returns-then-stated-file
+returns-then-stated-file c = sym (passed0 (goal.at.returns-then-stated-file c).Else-header-ne0 ∙ row-holds _ _ (tested (goal.at.returns-then-stated-file c).After-word_at-stated ∙ c.if-stated-file.true))
+
+pub returns-then-heights-posts : goal.returns-then-heights-posts
+returns-then-heights-posts c = sym (passed1 (goal.at.returns-then-heights-posts c).Else-stated-file ∙ row-holds _ _ (ap not (ne_eqb _ _ (λ z. c.if-heights-posts.true (z ∙ sym (posts (goal.at.returns-then-heights-posts c).After-posts_in-posts))))))
+
+equal-both : (n a b : ℕ) → not (eqb n a) || not (eqb n b) ≡ false → (n ≡ a) × (n ≡ b)
+equal-both n a b e = (eqb-true n a (not-false _ (or_left _ _ e)), eqb-true n b (not-false _ (or_right (not (eqb n a)) _ e)))
+
+pub first_out-post-requires : goal.first_out-post-requires
+first_out-post-requires c =
+    let branch = (goal.at.first_out-post-requires c).Else-header-ne0 in
+    let k = equal-both c.word_at-stated.result _ _ c.if-stated-file.false in
+    let h = header-bounds (version_in (F branch)) in
+    let l = long branch in
+    (c.header_size-before.ensures, omega (arith, h, l, k.0, k.1, c.header_size-before.ensures))
+
+pub returns-then-post-posts : goal.returns-then-post-posts
+returns-then-post-posts c =
+    let after = (goal.at.returns-then-post-posts c).After-first_out-post in
+    rw (out after) (sym (passed2 (goal.at.returns-then-post-posts c).Else-heights-posts ∙ row-holds _ _ (ranged after ∙ lt-ltb _ _ c.if-post-posts.true)))
+
+pub returns : goal.returns
+returns c = sym (passed2 (goal.at.returns c).Else-heights-posts ∙ row-passed _ _ (ranged (goal.at.returns c).After-first_out-post ∙ le-ltb _ _ c.if-post-posts.false) ∙ none_left)
+
+pub header_size-before-requires : goal.header_size-before-requires
+header_size-before-requires c = long (goal.at.header_size-before-requires c).Else-header-ne0
+
+pub overflow_sub-counted : goal.overflow_sub-counted
+overflow_sub-counted c = omega (arith, header-bounds (version_in (F (goal.at.overflow_sub-counted c).Else-header-ne0)), c.header_size-before.ensures)
+
+pub overflow_add-counted : goal.overflow_add-counted
+overflow_add-counted c = omega (arith, header-bounds (version_in (F (goal.at.overflow_add-counted c).Else-header-ne0)), c.header_size-before.ensures)
+
+pub word_at-stated-requires : goal.word_at-stated-requires
+word_at-stated-requires c = omega (arith, long (goal.at.word_at-stated-requires c).Else-header-ne0)
+
+pub overflow_sub-file : goal.overflow_sub-file
+overflow_sub-file c = omega (arith, long (goal.at.overflow_sub-file c).Else-header-ne0)
