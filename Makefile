@@ -23,15 +23,22 @@ MAN = $(call quoted,$(DESTDIR)$(MANDIR)/man1)
 # Two runs of rt would write the same files.
 .NOTPARALLEL:
 
+# What rt builds stands in the folders of the crates; both are copied from there. It is for any
+# x86-64 processor; if not told, rt takes a later one.
+PROVED_ARCHIVE = crates/surface_network/out/libsurface_network.a
+PROVED_LISTER = crates/lister/out/lister
+CPU = --cpu x86-64
+
 all: archive lister ## the archive and the lister
 
 archive: ## proves the library and builds target/staticlib/libsurface_network.a
-	rt staticlib surface_network
+	cd crates/surface_network && rt lib $(CPU)
+	@mkdir -p $(dir $(ARCHIVE)) && install -m 644 $(PROVED_ARCHIVE) $(ARCHIVE)
 
-# rt goes by the sources alone: it is told of a lister that is gone or was replaced.
+# rt runs what it builds. With this argument the lister reads nothing.
 lister: ## proves the lister and builds target/bin/lister
-	@test -x $(LISTER) && ! test $(LISTER) -nt target/stamp/lister || rm -f target/stamp/lister
-	rt check lister
+	cd crates/lister && rt run $(CPU) -- --version
+	@mkdir -p $(dir $(LISTER)) && install -m 755 $(PROVED_LISTER) $(LISTER)
 
 example: lister ## lists an example plot
 	$(LISTER) <examples/plots/star.svy
@@ -80,7 +87,7 @@ built:
 	done
 
 clean: ## removes all that was built
-	rm -rf target
+	rm -rf target crates/*/out
 
 help: ## this list
 	@sed -n 's/^\([a-z]*\):.*## /\1	/p' Makefile | expand -t 12

@@ -1,8 +1,7 @@
 /*
  * A small panel program: reads a survey file and the plot's settings sheet, surveys it,
- * tries a new height for a post and re-shoots it, follows a walk a post at a time, and
- * shows a saddle with the grounds of its mark, its water line and the ground that it
- * joins.
+ * re-shoots a post, follows a walk a post at a time, and shows a saddle with the grounds
+ * of its mark, its water line and the ground that it joins.
  *
  *     panel plot.svy [plot.set]
  *
@@ -104,20 +103,6 @@ static int survey(void)
     printf("%lu by %lu: %lu peaks, %lu pits, %lu saddles\n",
            (unsigned long)rows, (unsigned long)columns, (unsigned long)counts.peaks,
            (unsigned long)counts.pits, (unsigned long)counts.saddles);
-    return 0;
-}
-
-/* What a corrected height at a post would make of the counts. Nothing is changed. */
-static int try_height(uint32_t post, int32_t height)
-{
-    sn_trial_counts trial = sn_trial(sheet, sheet_length, rows, columns, heights, posts, post,
-                                     height);
-
-    if (trial.code != SN_OK)
-        return refused("trial", trial.code, trial.place);
-    printf("with post %lu at %ld mm: %lu peaks, %lu pits, %lu saddles\n", (unsigned long)post,
-           (long)height, (unsigned long)trial.new_peaks, (unsigned long)trial.new_pits,
-           (unsigned long)trial.new_saddles);
     return 0;
 }
 
@@ -233,7 +218,7 @@ int main(int argc, char **argv)
     if (survey())
         return 1;
     middle = (uint32_t)posts / 2;
-    if (try_height(middle, heights[middle] - 5) || reshoot(middle, heights[middle] - 5))
+    if (reshoot(middle, heights[middle] - 5))
         return 1;
     /* From the last post that is on no border. */
     if (walk_down((uint32_t)posts - columns - 2))

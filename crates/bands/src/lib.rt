@@ -1,5 +1,7 @@
 // The counts after a new height, by those before it: only marks of the post and of those that touch it can differ. These are worked out on a copy of the rows
 // round the post, which is a plot of its own.
+#![tactic(auto)]
+
 ghost use Rattle.std.specs.Prelude.{◌≡◌, true, ◌+◌, ◌-◌, ◌≤◌, ◌<◌};
 ghost use Rattle.surface.specs.Lists.{list_of};
 ghost use Rattle.surface.specs.Plot.{plot_of, posts, reshot, is_height, PostOf};

@@ -1,4 +1,6 @@
 // Changes of side: how many there are round the eight signs of a pattern, by a table, and the mark that a pattern and its changes tell.
+#![tactic(auto)]
+
 ghost use Rattle.std.specs.Prelude.{◌≡◌, ◌≤◌};
 ghost use Rattle.surface.specs.Flags.{mark_by};
 ghost use Rattle.surface.specs.Patterns.{changes_in, change_table, mark_in};

@@ -1,4 +1,6 @@
 // The saddles of a plot as driven: rows in turn, odd ones from their last column.
+#![tactic(auto)]
+
 ghost use Rattle.std.specs.Prelude.{◌≡◌, cond, ◌+◌, ◌*◌, ◌≤◌, ◌<◌, length};
 ghost use Rattle.surface.specs.Lists.{one};
 ghost use Rattle.surface.specs.Plot.{Sides};

@@ -1,4 +1,6 @@
 // Rows of flags: comparisons of the posts of a row with those of the one below it, and along that one.
+#![tactic(auto)]
+
 ghost use Rattle.std.specs.Prelude.{◌≡◌, ◌+◌, ◌≤◌, length};
 ghost use Rattle.surface.specs.Lists.{stores};
 ghost use Rattle.surface.specs.Plot.{plot_of};

@@ -1,4 +1,6 @@
 // The halves of the patterns of a row, by rows of flags: the lower halves of the row's own, and the upper halves of those of the row below it.
+#![tactic(auto)]
+
 ghost use Rattle.std.specs.Prelude.{◌≡◌};
 ghost use Rattle.surface.specs.Lists.{stores};
 ghost use Rattle.halves.specs.Halves.{upper_in, pattern_in, ForHalves, ForPatterns};

@@ -1,4 +1,6 @@
 // Where the patterns of a plot stand at the head of its top row, from which they are worked out row by row.
+#![tactic(auto)]
+
 ghost use Rattle.surface.specs.Plot.{plot_of};
 ghost use Rattle.heads.specs.Heads.{Head, ForTop};
 

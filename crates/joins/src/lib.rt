@@ -1,5 +1,7 @@
 // docs/SPECIFICATION.md, "Joins and splits": the joins and splits of every post of a plot. At each post they are its multiplicity together, so that joins are
 // told by splits and by the pattern.
+#![tactic(auto)]
+
 ghost use Rattle.std.specs.Prelude.{◌≡◌, ℕ, ◌-◌, ◌≤◌, ◌<◌, length, get_or};
 ghost use Rattle.surface.specs.Lists.{list_of};
 ghost use Rattle.surface.specs.Marks.{multiplicity};

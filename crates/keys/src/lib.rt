@@ -1,4 +1,6 @@
 // The posts round a post as keys: a post's height and its place among the nine, in one number, so that one comparison settles a tie too.
+#![tactic(auto)]
+
 ghost use Rattle.std.specs.Prelude.{◌≡◌, true, false, cond, ◌+◌, ◌-◌, ◌*◌, ◌≤◌, ◌<◌};
 ghost use Rattle.surface.specs.Plot.{plot_of, max_side, max_posts, row, is_odd, PostOf};
 ghost use Rattle.surface.specs.Edges.{is_border};

@@ -1,4 +1,6 @@
 // What a plot and a height may be, and the rows of the table of refusals that say so.
+#![tactic(auto)]
+
 ghost use Rattle.std.specs.Prelude.{◌≡◌, ◌&&◌, not, [], ◌∷◌, ◌≤◌, ltb, eqb, length};
 ghost use Rattle.surface.specs.Lists.{all, first_not};
 ghost use Rattle.surface.specs.Plot.{plot, max_posts, is_side, is_height};

@@ -1,4 +1,6 @@
 // docs/SPECIFICATION.md, "Lines, dales and hills": next down and next up from a post, and the lines of a saddle.
+#![tactic(auto)]
+
 mod line;
 mod walk;
 

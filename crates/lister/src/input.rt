@@ -1,7 +1,8 @@
 // Reading standard input, and the settings sheet beside it.
 ghost use Rattle.std.specs.Prelude.{◌≤◌, length};
 
-use libc::ENOENT;
+use std::fs;
+use std::io::{ErrorKind, Read};
 
 // How many bytes were read, and whether a read failed.
 #[derive(Clone, Copy)]
@@ -11,19 +12,26 @@ pub(crate) struct Input {
 }
 
 // Reads to the end of what `from` reads, or until the list is full or a read fails.
-pub(crate) fn read_input(from: i32, file: &mut [u8]) -> Input
+pub(crate) fn read_input<R: Read>(from: &mut R, file: &mut [u8]) -> Input
     ensures { result.bytes ≤ length file.new }
 {
     let mut bytes = 0;
     while bytes < file.len() {
-        let got = libc::read(from, &mut file[bytes..]);
-        if got <= 0 {
-            return Input {
-                bytes,
-                failed: got < 0,
-            };
+        match from.read(&mut file[bytes..]) {
+            Ok(0) => {
+                return Input {
+                    bytes,
+                    failed: false,
+                };
+            }
+            Ok(got) => bytes += got,
+            Err(_) => {
+                return Input {
+                    bytes,
+                    failed: true,
+                };
+            }
         }
-        bytes += got as usize;
     }
     Input {
         bytes,
@@ -33,17 +41,14 @@ pub(crate) fn read_input(from: i32, file: &mut [u8]) -> Input
 
 // Reads the settings sheet, plot.set in the folder that the program runs in. Only a file that is not there is no sheet: a plot that was drawn by another
 // rule than the sheet's would be a wrong one.
-pub(crate) fn read_sheet(sheet: &mut [u8]) -> Input
+pub(crate) fn read_sheet(rt: &HostRuntime, sheet: &mut [u8]) -> Input
     ensures { result.bytes ≤ length sheet.new }
 {
-    let from = os::open_read(b"plot.set");
-    if from < 0 {
-        return Input {
+    match fs::open(rt, "plot.set") {
+        Ok(mut from) => read_input(&mut from, sheet),
+        Err(e) => Input {
             bytes: 0,
-            failed: os::errno() != ENOENT,
-        };
+            failed: e.kind() != ErrorKind::NotFound,
+        },
     }
-    let input = read_input(from, sheet);
-    libc::close(from);
-    input
 }

@@ -4,7 +4,6 @@ ghost use Rattle.surface.specs.Plot.{plot_of};
 ghost use Rattle.saddle_lines.specs.Lines.{post_room, Known};
 ghost use Rattle.listing.specs.First.{Lent};
 
-use libc::STDOUT_FILENO;
 use listing::put_first;
 use saddle_lines::put_posts;
 use surface::{Grid, MAX_POSTS, Spacings};
@@ -15,6 +14,7 @@ const OUTPUT_ROOM: usize = 65536;
 
 // Prints the lines of all posts, a full buffer at a time.
 fn print_posts(
+    rt: &impl Print,
     heights: &[i32],
     grid: Grid,
     spacings: Spacings,
@@ -30,7 +30,7 @@ fn print_posts(
     while post < posts {
         let filled = put_posts(heights, grid, spacings, marks, dales, hills, post, buffer);
         let bytes = filled.bytes;
-        if !io::write_all(STDOUT_FILENO, &buffer[..bytes]) {
+        if rt.write_all(&buffer[..bytes]).is_err() {
             return false;
         }
         post = filled.post;
@@ -40,6 +40,7 @@ fn print_posts(
 
 // Prints the listing of a sheet and a file, with lists lent for its plot.
 fn print_listing(
+    rt: &impl Print,
     sheet: &[u8],
     file: &[u8],
     heights: &mut [i32],
@@ -54,15 +55,15 @@ fn print_listing(
     let bytes = begun.bytes;
     let grid = begun.grid;
     let spacings = begun.spacings;
-    let written = io::write_all(STDOUT_FILENO, &buffer[..bytes]);
+    let written = rt.write_all(&buffer[..bytes]).is_ok();
     if !written | (grid.rows == 0) {
         return written;
     }
-    print_posts(heights, grid, spacings, marks, dales, hills, buffer)
+    print_posts(rt, heights, grid, spacings, marks, dales, hills, buffer)
 }
 
 // Prints the listing of a sheet and a file. Its plot may be as large as any.
-pub(crate) fn print_file(sheet: &[u8], file: &[u8]) -> bool {
+pub(crate) fn print_file(rt: &impl Print, sheet: &[u8], file: &[u8]) -> bool {
     let mut heights = [0i32; MAX_POSTS];
     let mut marks = [0u8; MAX_POSTS];
     let mut dales = [0u16; MAX_POSTS];
@@ -70,6 +71,7 @@ pub(crate) fn print_file(sheet: &[u8], file: &[u8]) -> bool {
     let mut buffer = [0u8; OUTPUT_ROOM];
     let posts = posts_in(file);
     print_listing(
+        rt,
         sheet,
         file,
         &mut heights[..posts],

@@ -1,5 +1,7 @@
 // docs/SPECIFICATION.md, "Lister": the text that it prints. Here is its start: the sheet and the file are read, the plot surveyed, its dales and hills found,
 // and the first line written into a lent list of bytes. What is left then are the lines of `saddle_lines`.
+#![tactic(auto)]
+
 ghost use Rattle.std.specs.Prelude.{◌≡◌, ◌≤◌, length};
 ghost use Rattle.surface.specs.Calls.{sheet_says};
 ghost use Rattle.surface.specs.Lister.{refused_text, file_listing, listing};

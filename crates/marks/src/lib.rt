@@ -1,5 +1,7 @@
 // The marks of a whole plot, by its patterns: the table of changes is read for a part of the posts at a time, and their marks are told after that, so that
 // only the reading goes post by post.
+#![tactic(auto)]
+
 ghost use Rattle.std.specs.Prelude.{◌≡◌, ◌+◌, ◌≤◌, ◌<◌, min, length, get_or};
 ghost use Rattle.surface.specs.Lists.{stores};
 ghost use Rattle.surface.specs.Plot.{plot_of, posts, max_posts, Valid};

@@ -1,4 +1,6 @@
 // Bodies in a list of paths that rise: the end of a post's path names its body. At a saddle the bodies of the posts where its upper runs start become one.
+#![tactic(auto)]
+
 ghost use Rattle.std.specs.Prelude.{◌≡◌, ℕ, ◌≤◌, ◌<◌, length};
 ghost use Rattle.surface.specs.Plot.{plot_of, posts};
 ghost use Rattle.surface.specs.Patterns.{pattern_at, upper_starts, start_table};

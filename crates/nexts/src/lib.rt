@@ -1,5 +1,7 @@
 // Next down of every post of a plot and, where `both`, next up: in two lists that are filled together, so that the keys round a post are worked out once. The
 // compiler makes a loop of its own for each.
+#![tactic(auto)]
+
 ghost use Rattle.std.specs.Prelude.{◌≡◌, true, false, ℕ, ◌+◌, ◌*◌, ◌≤◌, ◌<◌};
 ghost use Rattle.surface.specs.Plot.{plot_of, posts, row, is_odd};
 ghost use Rattle.surface.specs.Edges.{is_border};

@@ -1,5 +1,7 @@
 // The height order of a plot. Nothing else compares two heights to tell which post is below, but `next` by keys, which are made of a height and of
 // `tie_place`.
+#![tactic(auto)]
+
 ghost use Rattle.std.specs.Prelude.{◌≡◌, true, false, cond, ◌+◌, ◌-◌, ◌<◌, ◌≤◌, pos, length, get_or};
 ghost use Rattle.std.specs.Int.Signed.{lt_z};
 ghost use Rattle.surface.specs.Lists.{list_of, stores};

@@ -1,5 +1,7 @@
 // docs/SPECIFICATION.md, "Lines, dales and hills": the dales and hills of a plot. Both lists are filled with next posts, and the paths that these make
 // are then shortened to their ends.
+#![tactic(auto)]
+
 ghost use Rattle.std.specs.Prelude.{◌≡◌};
 ghost use Rattle.surface.specs.Spacings.{spacings};
 ghost use Rattle.surface.specs.Refusals.{parts_verdict};

@@ -1,5 +1,7 @@
 // The three counts of a plot by its patterns, with no marks made: a peak is the pattern of eight signs below, a pit that of none, and the changes of all posts,
 // by the table, tell the saddles.
+#![tactic(auto)]
+
 ghost use Rattle.std.specs.Prelude.{◌≡◌, map, ◌+◌, ◌*◌, ◌≤◌, length, drop};
 ghost use Rattle.surface.specs.Lists.{total};
 ghost use Rattle.surface.specs.Plot.{max_posts};

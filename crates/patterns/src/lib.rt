@@ -1,4 +1,6 @@
 // The patterns of a whole plot, a row at a time, by rows of comparisons of the posts that touch.
+#![tactic(auto)]
+
 ghost use Rattle.std.specs.Prelude.{◌≡◌, ◌+◌, ◌-◌, ◌≤◌, length, get_or};
 ghost use Rattle.surface.specs.Lists.{list_of, stores};
 ghost use Rattle.surface.specs.Plot.{plot_of, posts, Valid};

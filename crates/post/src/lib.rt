@@ -1,3 +1,5 @@
 // One post at a time: its pattern and its mark.
+#![tactic(auto)]
+
 pub mod mark;
 pub mod pattern;

@@ -1,4 +1,6 @@
 // The counts of the marks of a small plot, before and after a new height at one post. Its heights are only read: the marks are redrawn by a copy.
+#![tactic(auto)]
+
 ghost use Rattle.std.specs.Prelude.{◌≡◌, true, map, ◌≤◌, length};
 ghost use Rattle.surface.specs.Plot.{plot_of, posts, reshot, is_height, PostOf};
 ghost use Rattle.surface.specs.Marks.{redrawn};
@@ -7,8 +9,8 @@ ghost use Rattle.tally.specs.Tally.{Counted};
 ghost use Rattle.retally.specs.Room.{max_copy};
 
 use marks::mark_all;
-use survey::redraw::redraw;
 use surface::Grid;
+use survey::redraw::redraw;
 use tally::{Tally, count};
 
 // The most heights that are copied: those of six rows of 120 columns.

@@ -1,4 +1,6 @@
 // The call for the ring behind a mark.
+#![tactic(auto)]
+
 mod codes;
 
 ghost use Rattle.std.specs.Prelude.{◌≡◌};

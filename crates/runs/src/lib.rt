@@ -1,4 +1,6 @@
 // The runs of a saddle's ring, lower ones, or upper ones where `up`: where one starts, and its steepest member.
+#![tactic(auto)]
+
 mod slope;
 
 ghost use Rattle.std.specs.Prelude.{◌≡◌, ◌++◌, ◌+◌, ◌≤◌, ◌<◌, length, get_or};

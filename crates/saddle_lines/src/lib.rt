@@ -1,5 +1,7 @@
 // The lister's lines of one saddle after the other, written into a lent list of bytes. Which posts are saddles is known from the list of marks, and where a
 // line ends from those of dales and hills, so that no mark is worked out and no line is walked.
+#![tactic(auto)]
+
 ghost use Rattle.std.specs.Prelude.{◌≡◌, ◌+◌, ◌*◌, ◌≤◌, ◌<◌, length};
 ghost use Rattle.surface.specs.Plot.{plot_of, Vertex};
 ghost use Rattle.surface.specs.Lines.{toward};

@@ -1,4 +1,6 @@
 // Settings sheets (docs/SPECIFICATION.md, "Settings sheet"): what a sheet says, the grid of a call with it, and the call that tells it.
+#![tactic(auto)]
+
 mod entries;
 mod frame;
 

@@ -1,4 +1,6 @@
 // Splits of every post of a plot. Only saddles split: they are sorted, and taken from the highest on.
+#![tactic(auto)]
+
 ghost use Rattle.std.specs.Prelude.{◌≡◌, length};
 ghost use Rattle.surface.specs.Lists.{list_of};
 ghost use Rattle.surface.specs.Plot.{plot_of, posts, Valid};

@@ -1,4 +1,6 @@
 // Where the upper runs of a ring start, by a table, and the list in which every post leads to the first of its own.
+#![tactic(auto)]
+
 ghost use Rattle.std.specs.Prelude.{◌≡◌, ℕ, ◌+◌, ◌≤◌, ◌<◌, length, get_or};
 ghost use Rattle.surface.specs.Lists.{list_of};
 ghost use Rattle.surface.specs.Plot.{max_side, max_posts};

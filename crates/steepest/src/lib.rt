@@ -1,5 +1,7 @@
 // The steepest key of a block, which is that of the next post. Among posts that are as far away it is the lowest or the highest key, and three are left to
 // compare by slopes: along the row, along the column and at a corner.
+#![tactic(auto)]
+
 ghost use Rattle.std.specs.Prelude.{◌≡◌, true, false, cond, [], ◌∷◌, ◌⊎◌, ◌+◌, ◌<◌, leb};
 ghost use Rattle.surface.specs.Plot.{plot_of, row, is_odd, PostOf};
 ghost use Rattle.surface.specs.Edges.{is_border};

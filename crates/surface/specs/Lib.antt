@@ -9,24 +9,24 @@
 --     {A : Type 0} → ..                      for every type A, which is not written where the definition is used
 --     λ x. ..    let x = .. in ..            a function; a name for a value
 --     cond b x y                             x where b is true, else y;  &&, ||, not: of true and false
---     leb a b   ltb a b   eqb a b   ltZ a b  the tests a ≤ b, a < b, a = b of natural numbers, and a < b of whole numbers
+--     leb a b   ltb a b   eqb a b   lt_z a b the tests a ≤ b, a < b, a = b of natural numbers, and a < b of whole numbers
 --     zero   suc n   a - b   a / b   a % b   0 and n + 1; a - b of natural numbers is 0 where b is greater; quotient and remainder
---     pos n     negsuc n   negℤ a   natAbs a the whole numbers n and -(n + 1); minus a; a without its sign
+--     pos n    negsuc n   neg_ℤ a  nat_abs a the whole numbers n and -(n + 1); minus a; a without its sign
 --     a *ℤ b    a -ℤ b                       a times b and a less b, of whole numbers
 --     closest a b                            a / b to the nearest natural number, to the even one where two are equally near
 --     []   x ∷ l   l ++ m   length           lists; x ∷ binds closer than ++
---     getD l i d   set l i x   replicate n x element i of l, or d past its end; l with x at place i; x, n times
+--     get_or l i d  set l i x  replicate n x element i of l, or d past its end; l with x at place i; x, n times
 --     take n l   drop n l   map f l          the first n elements; the others; f of each.  flatten: lists one after the other
 --     A × B   A ⊎ B   A ↔ B   A → ⊥          and; or; if and only if; not.  Unit {0}: no condition
 --     x ≡ y   x ≢ y   T b                    equal; not equal; b is true
---     List-as-Memᴰ x l                          x is an element of l
---     record { x = ..; y = .. }   a .x       a value of named parts; its part x, also written a.x
+--     Memᴰ x l                               x is an element of l
+--     record { x = ..; y = .. }   a.x        a value of named parts; its part x
 --     data D where a b : ..                  the values, or the proofs, of D are made by a and b alone
 --     module _ (x : A) where ..              every definition in it takes x as a further, first argument
 -- and the contracts of the functions in src/:
---     requires { ⌜ A ⌝ }                     A must hold where the function is called; no call for C has one
---     ensures { λ r. ⌜ A ⌝ }                 A holds when it returns; r is the result (λ _. where A does not speak of it)
---     now l   now l.entry   now l.exit the contents of a lent list, in `requires`; in `ensures` at the call, and when it returns
+--     requires { A }                         A must hold where the function is called; no call for C has one
+--     ensures { A }                          A holds when it returns; `result` is what it returns. Where there are two or more, each has a name
+--     l.now   l.old   l.new                  the contents of a lent list that is only read; of one that is written, at the call, and when it returns
 -- General: lists, rounding and numbers as files have them.
 pub mod Lists
 pub mod Rounding

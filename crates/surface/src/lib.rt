@@ -1,4 +1,5 @@
 // What the calls share: their answers, the grid that the functions below them work on, and the numbers of docs/SPECIFICATION.md by name.
+#![tactic(auto)]
 
 // The version of the library, which sn_version and the lister tell. The header has it too, and the tests hold the two to each other.
 pub const VERSION_MAJOR: u32 = 4;

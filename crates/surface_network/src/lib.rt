@@ -1,5 +1,7 @@
 // The calls for C: lists come as a pointer and a length, answers go back as structs of numbers. include/surface_network.h declares them; what is east and
 // south here is along_row and along_column there, and what is newPeaks new_peaks.
+#![tactic(auto)]
+
 ghost use Rattle.std.specs.Prelude.{◌≡◌};
 ghost use Rattle.surface.specs.Plot.{plot};
 ghost use Rattle.surface.specs.Spacings.{spacings};

@@ -1,4 +1,6 @@
 // The two calls that write marks: survey and re-shoot.
+#![tactic(auto)]
+
 pub mod redraw;
 mod verdict;
 

@@ -1,4 +1,6 @@
 // Survey files (docs/SPECIFICATION.md, "Survey file"): a file to heights in whole millimetres, and heights to a file.
+#![tactic(auto)]
+
 mod header;
 mod reading;
 mod writing;

@@ -1,5 +1,7 @@
 // The sweep over the saddles of a plot, from the highest on: each makes one body of those in which its upper runs start, and what these were more than one is its
 // splits.
+#![tactic(auto)]
+
 ghost use Rattle.std.specs.Prelude.{◌≡◌, length};
 ghost use Rattle.surface.specs.Lists.{list_of};
 ghost use Rattle.surface.specs.Plot.{plot_of};

@@ -1,4 +1,6 @@
 // The three counts of a list of marks. They are made in parts: those of 240 marks fit a byte, or two bytes, of which vector code adds many at a time.
+#![tactic(auto)]
+
 ghost use Rattle.std.specs.Prelude.{◌≡◌, map, ◌+◌, ◌*◌, ◌≤◌, min, eqb, length, drop};
 ghost use Rattle.surface.specs.Lists.{one, count, total};
 ghost use Rattle.surface.specs.Plot.{max_posts};

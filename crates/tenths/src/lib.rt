@@ -1,4 +1,6 @@
 // Filed heights, in tenths of a millimetre: read, rounded to whole ones, and written.
+#![tactic(auto)]
+
 ghost use Rattle.std.specs.Prelude.{◌≡◌, true, ◌+◌, ◌*◌, ◌≤◌, pos, ◌*ℤ◌, length};
 ghost use Rattle.surface.specs.Lists.{first_not};
 ghost use Rattle.surface.specs.Plot.{is_height};

@@ -1,4 +1,6 @@
 // The lines of the lister, one at a time. Each function writes at a place of a lent list, and gives the place after what it wrote.
+#![tactic(auto)]
+
 ghost use Rattle.std.specs.Prelude.{[], ◌∷◌, ◌+◌, ◌≤◌, ◌<◌, length};
 ghost use Rattle.surface.specs.Lister.{digits, decimal, text_line, end_name, refused_text};
 ghost use Rattle.text.specs.Wrote.{line_room, Wrote};

@@ -1,5 +1,7 @@
 // docs/SPECIFICATION.md, "Trial of a re-shoot": the counts of a plot, and those that it would have with one new height. Nothing is written: the patterns stand in
 // a list of the call's own.
+#![tactic(auto)]
+
 ghost use Rattle.std.specs.Prelude.{◌≡◌, true, length};
 ghost use Rattle.surface.specs.Plot.{plot_of, posts, reshot, is_height, PostOf};
 ghost use Rattle.surface.specs.Marks.{marks_of};

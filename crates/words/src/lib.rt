@@ -1,5 +1,7 @@
 // Big-endian numbers of 32 and of 16 bits in a list of bytes, and the signed reading of the former. By arithmetic, which loses nothing; the compiler makes
 // moves of it.
+#![tactic(auto)]
+
 ghost use Rattle.std.specs.Prelude.{◌≡◌, reverse, ◌+◌, ◌<◌, ◌≤◌, length};
 ghost use Rattle.std.proofs.lemmas.List.Edits.{sets};
 ghost use Rattle.surface.specs.Words.{word_at, bytes_of, half_at, half_bytes, signed, unsigned};
