@@ -21,8 +21,9 @@ overflow_mul-first c = omega (arith, row_here (goal.at.overflow_mul-first c).Sta
 
 pub loop-c-init : goal.loop-c-init
 loop-c-init c =
+    let start = (goal.at.loop-c-init c).Start in
     let found = c.requires.collected in
-    (omega arith, omega (arith, found.few), refl, (picked-rows c.requires.sides.0 c.args.r (first (goal.at.loop-c-init c).Start) (first (goal.at.loop-c-init c).Start + 0) refl (omega arith)).0 found.picked)
+    (omega arith, omega (arith, found.few), refl, (picked-rows c.requires.sides.0 c.args.r (first start) (first start + 0) refl (omega arith)).0 found.picked)
 
 -- this turn's post, how far along it is, and that it is in the plot
 abbrev post : After-choose → ℕ
@@ -47,21 +48,23 @@ saddle_at-m-requires c = let p = c.requires in (p.sides.2, omega (arith, inside 
 
 pub loop-c-preserved : goal.loop-c-preserved
 loop-c-preserved c =
+    let after = (goal.at.loop-c-preserved c).After-choose in
     let inv = c.loop-c.invariant in
     let t = c.saddle_at-m.ensures in (
       omega arith,
       omega arith,
       simp length-set inv.2,
-      picked_next c.requires.sides.0 (first (goal.at.loop-c-preserved c).Start) c.loop-c.c (post (goal.at.loop-c-preserved c).After-choose) (along (goal.at.loop-c-preserved c).After-choose) t.0 (room (goal.at.loop-c-preserved c).After-choose) inv.3,
+      picked_next c.requires.sides.0 (first (goal.at.loop-c-preserved c).Start) c.loop-c.c (post after) (along after) t.0 (room after) inv.3,
     )
 
 pub returns : goal.returns
 returns c =
+    let start = (goal.at.returns c).Start in
     let columns = c.args.grid.columns in
     let k : c.loop-c.c ≡ columns = omega arith in
     record {
       few = omega arith;
-      picked = (picked-rows c.requires.sides.0 (c.args.r + 1) (first (goal.at.returns c).Start + columns) (first (goal.at.returns c).Start + c.loop-c.c) (omega (arith, add-mul c.args.r 1 columns, one-mul columns)) (omega arith)).1 c.loop-c.invariant.3;
+      picked = (picked-rows c.requires.sides.0 (c.args.r + 1) (first start + columns) (first start + c.loop-c.c) (omega (arith, add-mul c.args.r 1 columns, one-mul columns)) (omega arith)).1 c.loop-c.invariant.3;
     }
 
 pub overflow_add-p : goal.overflow_add-p

@@ -41,19 +41,21 @@ place-bits n h = rw (lt-ltb n 2147483648 (omega arith))
 
 pub overflow_add-result : goal.overflow_add-result
 overflow_add-result c =
+    let start = (goal.at.overflow_add-result c).Start in
     let h = c.tie_place.ensures.1 in
-    rw (bits (goal.at.overflow_add-result c).Start, to_z-of_z (part-fits (read (goal.at.overflow_add-result c).Start) (in-range (goal.at.overflow_add-result c).Start)), place-bits _ h) (key_fits (read (goal.at.overflow_add-result c).Start) _ h (in-range (goal.at.overflow_add-result c).Start))
+    rw (bits start, to_z-of_z (part-fits (read start) (in-range start)), place-bits _ h) (key_fits (read start) _ h (in-range start))
 
 pub returns : goal.returns
 returns c =
+    let start = (goal.at.returns c).Start in
     let a = c.args in
     let t = c.requires.2 in
     let h = c.tie_place.ensures.1 in
-    let q : a.p + (a.down * a.grid.columns + a.along) - (a.grid.columns + 1) ≡ t.q = omega (arith, number (goal.at.returns c).Start) in
+    let q : a.p + (a.down * a.grid.columns + a.along) - (a.grid.columns + 1) ≡ t.q = omega (arith, number start) in
     let e : c.tie_place.result ≡ tie_place a.grid.columns a.p t.q =
     c.tie_place.ensures.0 ∙ ap (λ (b : Bool). place_at a.grid.columns b a.down a.along) c.requires.1 ∙ sym (place-stands t.stands t.in_rows t.in_columns)
     in
-    rw (bits (goal.at.returns c).Start, to_z-of_z (part-fits (read (goal.at.returns c).Start) (in-range (goal.at.returns c).Start)), place-bits _ h, to_z-of_z (key_fits (read (goal.at.returns c).Start) _ h (in-range (goal.at.returns c).Start)), q, e)
+    rw (bits start, to_z-of_z (part-fits (read start) (in-range start)), place-bits _ h, to_z-of_z (key_fits (read start) _ h (in-range start)), q, e)
 
 pub overflow_mul-q : goal.overflow_mul-q
 overflow_mul-q c = omega (arith, number (goal.at.overflow_mul-q c).Start, c.requires.0.valid.sides)
@@ -77,7 +79,9 @@ pub bounds-heights-q : goal.bounds-heights-q
 bounds-heights-q c = omega (arith, number (goal.at.bounds-heights-q c).Start, c.requires.2.post, c.requires.0.valid.size)
 
 pub overflow_mul-result : goal.overflow_mul-result
-overflow_mul-result c = rw (bits (goal.at.overflow_mul-result c).Start) (part-fits (read (goal.at.overflow_mul-result c).Start) (in-range (goal.at.overflow_mul-result c).Start))
+overflow_mul-result c =
+    let start = (goal.at.overflow_mul-result c).Start in
+    rw (bits start) (part-fits (read start) (in-range start))
 
 pub tie_place-requires : goal.tie_place-requires
 tie_place-requires c = (c.requires.0.valid.sides.narrow, c.requires.2.in_rows, c.requires.2.in_columns)

@@ -1,4 +1,4 @@
--- after the rows that lead, rows 4 and 5.
+-- After the rows that lead, rows 4 and 5.
 use mathlib.Core.Path.{◌≡◌, sym, ◌∙◌}
 use mathlib.Core.List.{[], ◌∷◌}
 use native.Mathlib.Omega.{arith}

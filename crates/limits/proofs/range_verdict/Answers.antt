@@ -1,4 +1,4 @@
--- row 4, then row 5.
+-- Row 4, then row 5.
 use mathlib.Core.Path.{◌≡◌, sym, ◌∙◌, ap}
 use mathlib.Core.Bool.{not}
 use mathlib.Core.List.{[], ◌∷◌}

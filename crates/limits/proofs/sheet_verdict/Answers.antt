@@ -1,4 +1,4 @@
--- return by return.
+-- Return by return.
 use mathlib.Core.Path.{sym, ◌∙◌}
 use borrow.Author.Tests.{eq-eqb, ne_eqb}
 use Rattle.surface.proofs.OfCalls.Verdicts.{row-holds, row-passed, none_left}

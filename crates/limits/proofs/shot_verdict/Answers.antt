@@ -1,4 +1,4 @@
--- rows 4 and 5, then row 6.
+-- Rows 4 and 5, then row 6.
 use mathlib.Core.Path.{◌≡◌, sym, ◌∙◌, ap}
 use mathlib.Core.Bool.{not}
 use mathlib.Core.List.{[], ◌∷◌}

@@ -1,4 +1,4 @@
--- its test is the one of `spaced-rows`.
+-- Its test is the one of `spaced-rows`.
 use Prim.Native.Nat.{ℕ}
 use mathlib.Core.Path.{◌≡◌, sym, ◌∙◌, ap, ap₂}
 use mathlib.Core.Bool.{Bool, cond, not, ◌&&◌}

@@ -1,4 +1,4 @@
--- the rows of the sheet, then the others.
+-- The rows of the sheet, then the others.
 use mathlib.Core.Path.{sym, ◌∙◌}
 use mathlib.Core.List.{[], ◌∷◌}
 use Rattle.surface.proofs.OfCalls.Verdicts.{code, leads-refused, leads-passed}

@@ -36,7 +36,9 @@ pub overflow_cast-ups : goal.overflow_cast-ups
 overflow_cast-ups c = omega (arith, c.next_up_anywhere.ensures, next_fits (post (goal.at.overflow_cast-ups c).In-loop-i) c.args.spacings)
 
 pub offset_bounds-ups-p : goal.offset_bounds-ups-p
-offset_bounds-ups-p c = omega (arith, (post (goal.at.offset_bounds-ups-p c).In-loop-i).post, (post (goal.at.offset_bounds-ups-p c).In-loop-i).valid.sides)
+offset_bounds-ups-p c =
+    let turn = (goal.at.offset_bounds-ups-p c).In-loop-i in
+    omega (arith, (post turn).post, (post turn).valid.sides)
 
 pub bounds-ups-p : goal.bounds-ups-p
 bounds-ups-p c = omega (arith, (post (goal.at.bounds-ups-p c).In-loop-i).post, (lent (goal.at.bounds-ups-p c).At-loop-i).ups_size c.if-both.true)

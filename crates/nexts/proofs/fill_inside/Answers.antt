@@ -52,7 +52,9 @@ pub overflow_cast-ups : goal.overflow_cast-ups
 overflow_cast-ups c = omega (arith, c.next_inside-up.ensures, next_fits (turn (goal.at.overflow_cast-ups c).After-next_inside-down) c.args.spacings)
 
 pub offset_bounds-ups-p : goal.offset_bounds-ups-p
-offset_bounds-ups-p c = omega (arith, (turn (goal.at.offset_bounds-ups-p c).After-next_inside-down).post, (turn (goal.at.offset_bounds-ups-p c).After-next_inside-down).valid.sides)
+offset_bounds-ups-p c =
+    let after = (goal.at.offset_bounds-ups-p c).After-next_inside-down in
+    omega (arith, (turn after).post, (turn after).valid.sides)
 
 pub bounds-ups-p : goal.bounds-ups-p
 bounds-ups-p c = omega (arith, (turn (goal.at.bounds-ups-p c).After-next_inside-down).post, (lent (goal.at.bounds-ups-p c).At-loop-i).ups_size c.if-both.true)
@@ -61,7 +63,9 @@ pub overflow_cast-downs : goal.overflow_cast-downs
 overflow_cast-downs c = omega (arith, c.next_inside-down.ensures, next_fits (turn (goal.at.overflow_cast-downs c).After-next_inside-down) c.args.spacings)
 
 pub offset_bounds-downs-p : goal.offset_bounds-downs-p
-offset_bounds-downs-p c = omega (arith, (turn (goal.at.offset_bounds-downs-p c).After-next_inside-down).post, (turn (goal.at.offset_bounds-downs-p c).After-next_inside-down).valid.sides)
+offset_bounds-downs-p c =
+    let after = (goal.at.offset_bounds-downs-p c).After-next_inside-down in
+    omega (arith, (turn after).post, (turn after).valid.sides)
 
 pub bounds-downs-p : goal.bounds-downs-p
 bounds-downs-p c = omega (arith, (turn (goal.at.bounds-downs-p c).After-next_inside-down).post, (lent (goal.at.bounds-downs-p c).At-loop-i).downs_size)

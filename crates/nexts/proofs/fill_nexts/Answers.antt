@@ -65,8 +65,9 @@ overflow_mul-last c = omega (arith, bottom (goal.at.overflow_mul-last c).At-loop
 
 pub fill_border-requires-2 : goal.fill_border-requires-2
 fill_border-requires-2 c =
+    let head = (goal.at.fill_border-requires-2 c).At-loop-r in
     let sides = c.requires.valid.sides in
-    let last = c.args.grid.rows - 1 in record { for_nexts = (lent (goal.at.fill_border-requires-2 c).At-loop-r, bottom (goal.at.fill_border-requires-2 c).At-loop-r); by_index = λ i h. bottom-border sides (last * c.args.grid.columns + i) last i h refl (omega (arith, sides)) }
+    let last = c.args.grid.rows - 1 in record { for_nexts = (lent head, bottom head); by_index = λ i h. bottom-border sides (last * c.args.grid.columns + i) last i h refl (omega (arith, sides)) }
 
 filled : (c : After-fill_border-2)
     → let a = c.args in

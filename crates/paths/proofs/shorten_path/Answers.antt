@@ -32,7 +32,8 @@ bounds-list-e-in-loop-e c = omega (arith, inside (goal.at.bounds-list-e-in-loop-
 
 pub loop-e-smaller : goal.loop-e-smaller
 loop-e-smaller c =
-    read-nearer c.loop-e.invariant.0 c.loop-e.e c.requires.0 (inside (goal.at.loop-e-smaller c).In-loop-e) (goes_on _ _ (not_end (goal.at.loop-e-smaller c).In-loop-e))
+    let turn = (goal.at.loop-e-smaller c).In-loop-e in
+    read-nearer c.loop-e.invariant.0 c.loop-e.e c.requires.0 (inside turn) (goes_on _ _ (not_end turn))
 
 pub loop-e-preserved : goal.loop-e-preserved
 loop-e-preserved c =

@@ -29,10 +29,13 @@ returns-then-name-ne-NAME_LENGTH c =
     record { value = c.refused.ensures ∙ sym r.0; name_after = sym r.1 }
 
 pub overflow_sub-sheet : goal.overflow_sub-sheet
-overflow_sub-sheet c = rw (said (goal.at.overflow_sub-sheet c).Else-said-ne0) (named_in c.args.sheet.now (passed (goal.at.overflow_sub-sheet c).Else-said-ne0))
+overflow_sub-sheet c =
+    let branch = (goal.at.overflow_sub-sheet c).Else-said-ne0 in
+    rw (said branch) (named_in c.args.sheet.now (passed branch))
 
 pub returns : goal.returns
 returns c =
-    let r = served _ _ (passed (goal.at.returns c).Else-said-ne0) c.if-name-ne-NAME_LENGTH.false in
-    let b = name-bytes c.args.sheet.now (passed (goal.at.returns c).Else-said-ne0) in
-    record { value = said (goal.at.returns c).Else-said-ne0 ∙ sym r.0; name_after = c.put_name.ensures ∙ rw (said (goal.at.returns c).Else-said-ne0) (sym (r.1 ∙ b)) }
+    let branch = (goal.at.returns c).Else-said-ne0 in
+    let r = served _ _ (passed branch) c.if-name-ne-NAME_LENGTH.false in
+    let b = name-bytes c.args.sheet.now (passed branch) in
+    record { value = said branch ∙ sym r.0; name_after = c.put_name.ensures ∙ rw (said branch) (sym (r.1 ∙ b)) }

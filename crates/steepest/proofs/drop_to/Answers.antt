@@ -50,25 +50,34 @@ downward c =
     down c.args.own c.args.k c.ranges.own.sfits c.ranges.k.sfits (rw c.if-up.false at c.requires)
 
 pub overflow_sub-result : goal.overflow_sub-result
-overflow_sub-result c = rw ((heights (goal.at.overflow_sub-result c).After-height_of-to).0, (heights (goal.at.overflow_sub-result c).After-height_of-to).1) (upward c).fits
+overflow_sub-result c =
+    let after = (goal.at.overflow_sub-result c).After-height_of-to in
+    rw ((heights after).0, (heights after).1) (upward c).fits
 
 pub overflow_cast-result : goal.overflow_cast-result
 overflow_cast-result c =
+    let after = (goal.at.overflow_cast-result c).After-height_of-to in
     let d = upward c in
-    rw ((heights (goal.at.overflow_cast-result c).After-height_of-to).0, (heights (goal.at.overflow_cast-result c).After-height_of-to).1, to_z-of_z d.fits) (d.some, record { fits = omega (arith, d.small) })
+    rw ((heights after).0, (heights after).1, to_z-of_z d.fits) (d.some, record { fits = omega (arith, d.small) })
 
 pub returns-then-up : goal.returns-then-up
 returns-then-up c =
+    let after = (goal.at.returns-then-up c).After-height_of-to in
     let d = upward c in
-    rw ((heights (goal.at.returns-then-up c).After-height_of-to).0, (heights (goal.at.returns-then-up c).After-height_of-to).1, to_z-of_z d.fits) (drop-back c.args.own c.args.k c.ranges.own.sfits c.ranges.k.sfits, d.small)
+    rw ((heights after).0, (heights after).1, to_z-of_z d.fits) (drop-back c.args.own c.args.k c.ranges.own.sfits c.ranges.k.sfits, d.small)
 
 pub overflow_sub-result-2 : goal.overflow_sub-result-2
-overflow_sub-result-2 c = rw ((heights (goal.at.overflow_sub-result-2 c).After-height_of-to).0, (heights (goal.at.overflow_sub-result-2 c).After-height_of-to).1) (downward c).fits
+overflow_sub-result-2 c =
+    let after = (goal.at.overflow_sub-result-2 c).After-height_of-to in
+    rw ((heights after).0, (heights after).1) (downward c).fits
 
 pub overflow_cast-result-2 : goal.overflow_cast-result-2
 overflow_cast-result-2 c =
+    let after = (goal.at.overflow_cast-result-2 c).After-height_of-to in
     let d = downward c in
-    rw ((heights (goal.at.overflow_cast-result-2 c).After-height_of-to).0, (heights (goal.at.overflow_cast-result-2 c).After-height_of-to).1, to_z-of_z d.fits) (d.some, record { fits = omega (arith, d.small) })
+    rw ((heights after).0, (heights after).1, to_z-of_z d.fits) (d.some, record { fits = omega (arith, d.small) })
 
 pub returns : goal.returns
-returns c = let d = downward c in rw ((heights (goal.at.returns c).After-height_of-to).0, (heights (goal.at.returns c).After-height_of-to).1, to_z-of_z d.fits) (refl, d.small)
+returns c =
+    let after = (goal.at.returns c).After-height_of-to in
+    let d = downward c in rw ((heights after).0, (heights after).1, to_z-of_z d.fits) (refl, d.small)

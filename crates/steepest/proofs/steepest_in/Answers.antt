@@ -45,7 +45,9 @@ takes_column-turns-requires c =
 -- which way the side is, and its key
 turned : (c : After-takes_column-turns) → let a = c.args in let k = a.b in
     c.takes_column-turns.result ≡ overtakes a.up k.post (farthest a.up k.post (k.e ∷ k.w ∷ [])) (squared a.spacings.east) (farthest a.up k.post (k.n ∷ k.s ∷ [])) (squared a.spacings.south)
-turned c = rw (own (goal.at.After-takes_column-turns c).After-farthest_beside-column, row (goal.at.After-takes_column-turns c).After-farthest_beside-row, column (goal.at.After-takes_column-turns c).After-farthest_beside-column) at c.takes_column-turns.ensures
+turned c =
+    let after = (goal.at.After-takes_column-turns c).After-farthest_beside-column in
+    rw (own after, row (goal.at.After-takes_column-turns c).After-farthest_beside-row, column after) at c.takes_column-turns.ensures
 
 side : (c : After-choose-side) → let a = c.args in let k = a.b in
     to_z w32 (of_z w32 c.choose-side.result) ≡ cond c.takes_column-turns.result (farthest a.up k.post (k.n ∷ k.s ∷ [])) (farthest a.up k.post (k.e ∷ k.w ∷ []))
@@ -76,6 +78,8 @@ takes_corner-requires c =
 
 pub returns : goal.returns
 returns c =
-    let last = rw (own (goal.at.returns c).After-farthest_beside-column, side (goal.at.returns c).After-choose-side, corner (goal.at.returns c).After-farthest_corner-corner, c.side_length-length.ensures) at c.takes_corner.ensures in
+    let after = (goal.at.returns c).After-choose-side in
+    let after' = (goal.at.returns c).After-farthest_corner-corner in
+    let last = rw (own (goal.at.returns c).After-farthest_beside-column, side after, corner after', c.side_length-length.ensures) at c.takes_corner.ensures in
     bits_of c.choose.result c.choose.type_inv
-    ∙ (rw (corner (goal.at.returns c).After-farthest_corner-corner, side (goal.at.returns c).After-choose-side, last, turned (goal.at.returns c).After-takes_column-turns) at c.choose.ensures)
+    ∙ (rw (corner after', side after, last, turned (goal.at.returns c).After-takes_column-turns) at c.choose.ensures)

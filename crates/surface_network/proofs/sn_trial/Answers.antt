@@ -1,4 +1,4 @@
--- the height that was handed on is the one that was lent.
+-- The height that was handed on is the one that was lent.
 use mathlib.Core.Path.{◌≡◌}
 use mir.Syntax.{w32}
 use mir.Val.{to_z, of_z}

@@ -1,4 +1,4 @@
--- a refusal is handed on, and what an accepted read found is what filling the list asks.
+-- A refusal is handed on, and what an accepted read found is what filling the list asks.
 use Prim.Native.Nat.{◌≤◌}
 use mathlib.Core.Path.{◌≡◌, sym, ◌∙◌}
 use native.Mathlib.Omega.{arith}

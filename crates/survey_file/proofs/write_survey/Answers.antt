@@ -1,4 +1,4 @@
--- a refusal is handed on, and what an accepted call was given is what writing asks.
+-- A refusal is handed on, and what an accepted call was given is what writing asks.
 use mathlib.Core.Path.{◌≡◌, sym, ◌∙◌}
 use native.Mathlib.Omega.{arith}
 use Rattle.surface.specs.Plot.{plot}

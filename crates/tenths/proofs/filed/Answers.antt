@@ -1,4 +1,4 @@
--- ten times a height in range fits 32 bits.
+-- Ten times a height in range fits 32 bits.
 use lib.IntN.{pos, ◌*ℤ◌}
 use mir.Syntax.{w32}
 use mir.Val.{SFits}

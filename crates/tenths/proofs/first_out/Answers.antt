@@ -32,11 +32,15 @@ tested c =
 
 pub returns-then-not-is_tenths : goal.returns-then-not-is_tenths
 returns-then-not-is_tenths c =
-    omega (arith, first_not-stop is_tenths (Ts (goal.at.returns-then-not-is_tenths c).At-loop-i) c.loop-i.i (pos 0) (omega (arith, many (goal.at.returns-then-not-is_tenths c).At-loop-i)) (sym (tested (goal.at.returns-then-not-is_tenths c).After-is_tenths) ∙ c.if-not-is_tenths.true))
+    let head = (goal.at.returns-then-not-is_tenths c).At-loop-i in
+    omega (arith, first_not-stop is_tenths (Ts head) c.loop-i.i (pos 0) (omega (arith, many head)) (sym (tested (goal.at.returns-then-not-is_tenths c).After-is_tenths) ∙ c.if-not-is_tenths.true))
 
 pub loop-i-preserved : goal.loop-i-preserved
 loop-i-preserved c =
-    omega (arith, first_not-pass is_tenths (Ts (goal.at.loop-i-preserved c).At-loop-i) c.loop-i.i (pos 0) (omega (arith, many (goal.at.loop-i-preserved c).At-loop-i)) (sym (tested (goal.at.loop-i-preserved c).After-is_tenths) ∙ c.if-not-is_tenths.false))
+    let head = (goal.at.loop-i-preserved c).At-loop-i in
+    omega (arith, first_not-pass is_tenths (Ts head) c.loop-i.i (pos 0) (omega (arith, many head)) (sym (tested (goal.at.loop-i-preserved c).After-is_tenths) ∙ c.if-not-is_tenths.false))
 
 pub returns : goal.returns
-returns c = omega (arith, first_not-end is_tenths (Ts (goal.at.returns c).At-loop-i) c.loop-i.i (omega (arith, many (goal.at.returns c).At-loop-i)))
+returns c =
+    let head = (goal.at.returns c).At-loop-i in
+    omega (arith, first_not-end is_tenths (Ts head) c.loop-i.i (omega (arith, many head)))

@@ -1,4 +1,4 @@
--- no step of it goes beyond 32 bits, and what it gives is the nearest.
+-- No step of it goes beyond 32 bits, and what it gives is the nearest.
 use Prim.Native.Nat.{ℕ}
 use mathlib.Core.Path.{◌≡◌, ◌∙◌}
 use borrow.Author.Rules.{rules}
@@ -46,7 +46,11 @@ module _ (c : After-step) where
   bits-step = let r : to_z w32 (of_z w32 c.step.result) ≡ c.step.result = search rules in r ∙ stepped
 
 pub overflow_add-result : goal.overflow_add-result
-overflow_add-result c = rw (bits-t (goal.at.overflow_add-result c).Start, bits-whole (goal.at.overflow_add-result c).Start, bits-step c, rounded-is (t (goal.at.overflow_add-result c).Start)) (rounded-fits (t (goal.at.overflow_add-result c).Start) c.ranges.t)
+overflow_add-result c =
+    let start = (goal.at.overflow_add-result c).Start in
+    rw (bits-t start, bits-whole start, bits-step c, rounded-is (t start)) (rounded-fits (t start) c.ranges.t)
 
 pub returns : goal.returns
-returns c = rw (bits-t (goal.at.returns c).Start, bits-whole (goal.at.returns c).Start, bits-step c, rounded-is (t (goal.at.returns c).Start)) (to_z-of_z (rounded-fits (t (goal.at.returns c).Start) c.ranges.t))
+returns c =
+    let start = (goal.at.returns c).Start in
+    rw (bits-t start, bits-whole start, bits-step c, rounded-is (t start)) (to_z-of_z (rounded-fits (t start) c.ranges.t))

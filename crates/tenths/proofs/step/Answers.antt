@@ -1,4 +1,4 @@
--- each return is by the tests that led to it.
+-- Each return is by the tests that led to it.
 use mathlib.Core.Path.{◌≡◌}
 use mathlib.Core.Bool.{true, false}
 use lib.IntN.{pos, negsuc}

@@ -1,4 +1,4 @@
--- which joins those of its two callees.
+-- Which joins those of its two callees.
 use mathlib.Core.Path.{◌≡◌, ◌∙◌, ap}
 use borrow.Author.Rules.{rules}
 use mir.Syntax.{w32}

@@ -1,4 +1,4 @@
--- by the laws of `signed` below and from half the range on.
+-- By the laws of `signed` below and from half the range on.
 use Prim.Native.Nat.{◌-◌}
 use mathlib.Core.Path.{◌≡◌}
 use lib.IntN.{negsuc, ◌-ℤ◌}

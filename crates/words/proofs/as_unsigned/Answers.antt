@@ -1,4 +1,4 @@
--- below zero and from zero on.
+-- Below zero and from zero on.
 use Prim.Native.Nat.{ℕ, ◌-◌, ◌<◌}
 use native.Mathlib.Omega.{arith}
 use mathlib.Core.Path.{◌≡◌}

@@ -1,4 +1,4 @@
--- its two stores are the run of stores that the contract names.
+-- Its two stores are the run of stores that the contract names.
 use native.Mathlib.Omega.{arith}
 use native.Mathlib.Numerals.{towards_suc}
 use lib.ListN.{length-set}

@@ -1,4 +1,4 @@
--- each byte is below 256, so that no sum wraps and each byte is found again.
+-- Each byte is below 256, so that no sum wraps and each byte is found again.
 use Prim.Native.Nat.{ℕ, ◌+◌, ◌*◌, ◌/◌, ◌%◌, ◌<◌}
 use native.Mathlib.Omega.{arith}
 use mathlib.Core.Path.{◌≡◌, ◌∙◌}

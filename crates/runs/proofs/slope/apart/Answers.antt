@@ -22,27 +22,35 @@ not-less : (c : Else-a-b) → lt_z (a (goal.at.Else-a-b c).Start) (b (goal.at.El
 not-less c = let f = c.ranges in rw (to_z-of_z f.a, to_z-of_z f.b) at c.if-a-b.false
 
 pub overflow_sub-result : goal.overflow_sub-result
-overflow_sub-result c = rw (to_z-of_z c.ranges.a, to_z-of_z c.ranges.b) (apart_fits (b (goal.at.overflow_sub-result c).Start) (a (goal.at.overflow_sub-result c).Start) c.requires.1 c.requires.0)
+overflow_sub-result c =
+    let start = (goal.at.overflow_sub-result c).Start in
+    rw (to_z-of_z c.ranges.a, to_z-of_z c.ranges.b) (apart_fits (b start) (a start) c.requires.1 c.requires.0)
 
 pub overflow_cast-result : goal.overflow_cast-result
 overflow_cast-result c =
-    rw (to_z-of_z c.ranges.a, to_z-of_z c.ranges.b, to_z-of_z (apart_fits (b (goal.at.overflow_cast-result c).Start) (a (goal.at.overflow_cast-result c).Start) c.requires.1 c.requires.0))
-    (apart-cast (b (goal.at.overflow_cast-result c).Start) (a (goal.at.overflow_cast-result c).Start) c.requires.1 c.requires.0 (less c))
+    let start = (goal.at.overflow_cast-result c).Start in
+    rw (to_z-of_z c.ranges.a, to_z-of_z c.ranges.b, to_z-of_z (apart_fits (b start) (a start) c.requires.1 c.requires.0))
+    (apart-cast (b start) (a start) c.requires.1 c.requires.0 (less c))
 
 pub returns-then-a-b : goal.returns-then-a-b
 returns-then-a-b c =
-    rw (to_z-of_z c.ranges.a, to_z-of_z c.ranges.b, to_z-of_z (apart_fits (b (goal.at.returns-then-a-b c).Start) (a (goal.at.returns-then-a-b c).Start) c.requires.1 c.requires.0))
-    (apart-turned (a (goal.at.returns-then-a-b c).Start) (b (goal.at.returns-then-a-b c).Start) c.requires.0 c.requires.1, apart_low (b (goal.at.returns-then-a-b c).Start) (a (goal.at.returns-then-a-b c).Start) c.requires.1 c.requires.0)
+    let start = (goal.at.returns-then-a-b c).Start in
+    rw (to_z-of_z c.ranges.a, to_z-of_z c.ranges.b, to_z-of_z (apart_fits (b start) (a start) c.requires.1 c.requires.0))
+    (apart-turned (a start) (b start) c.requires.0 c.requires.1, apart_low (b start) (a start) c.requires.1 c.requires.0)
 
 pub overflow_sub-result-2 : goal.overflow_sub-result-2
-overflow_sub-result-2 c = rw (to_z-of_z c.ranges.a, to_z-of_z c.ranges.b) (apart_fits (a (goal.at.overflow_sub-result-2 c).Start) (b (goal.at.overflow_sub-result-2 c).Start) c.requires.0 c.requires.1)
+overflow_sub-result-2 c =
+    let start = (goal.at.overflow_sub-result-2 c).Start in
+    rw (to_z-of_z c.ranges.a, to_z-of_z c.ranges.b) (apart_fits (a start) (b start) c.requires.0 c.requires.1)
 
 pub overflow_cast-result-2 : goal.overflow_cast-result-2
 overflow_cast-result-2 c =
-    rw (to_z-of_z c.ranges.a, to_z-of_z c.ranges.b, to_z-of_z (apart_fits (a (goal.at.overflow_cast-result-2 c).Start) (b (goal.at.overflow_cast-result-2 c).Start) c.requires.0 c.requires.1))
-    (apart-cast (a (goal.at.overflow_cast-result-2 c).Start) (b (goal.at.overflow_cast-result-2 c).Start) c.requires.0 c.requires.1 (not-less c))
+    let start = (goal.at.overflow_cast-result-2 c).Start in
+    rw (to_z-of_z c.ranges.a, to_z-of_z c.ranges.b, to_z-of_z (apart_fits (a start) (b start) c.requires.0 c.requires.1))
+    (apart-cast (a start) (b start) c.requires.0 c.requires.1 (not-less c))
 
 pub returns : goal.returns
 returns c =
-    rw (to_z-of_z c.ranges.a, to_z-of_z c.ranges.b, to_z-of_z (apart_fits (a (goal.at.returns c).Start) (b (goal.at.returns c).Start) c.requires.0 c.requires.1))
-    (refl, apart_low (a (goal.at.returns c).Start) (b (goal.at.returns c).Start) c.requires.0 c.requires.1)
+    let start = (goal.at.returns c).Start in
+    rw (to_z-of_z c.ranges.a, to_z-of_z c.ranges.b, to_z-of_z (apart_fits (a start) (b start) c.requires.0 c.requires.1))
+    (refl, apart_low (a start) (b start) c.requires.0 c.requires.1)

@@ -37,8 +37,9 @@ pl s = plot_of s.args.grid s.args.heights.now
 pub returns-then-to_q-to_r : goal.returns-then-to_q-to_r
 unfolding squared_drop squared_length
 returns-then-to_q-to_r c =
+    let start = (goal.at.returns-then-to_q-to_r c).Start in
     let a = c.args in
-    by-slopes (pl (goal.at.returns-then-to_q-to_r c).Start) a.spacings (directed a.up (below (pl (goal.at.returns-then-to_q-to_r c).Start))) a.p a.q a.r
+    by-slopes (pl start) a.spacings (directed a.up (below (pl start))) a.p a.q a.r
     c.squared_drop.ensures.0
     c.squared_length.ensures.0
     c.squared_drop-2.ensures.0
@@ -51,9 +52,10 @@ is_lower-requires c = let k = c.requires in (k.0.valid, inl k.1, inl k.2)
 pub returns : goal.returns
 unfolding squared_drop squared_length
 returns c =
+    let start = (goal.at.returns c).Start in
     let a = c.args in
     c.is_lower.ensures
-    ∙ by_order (pl (goal.at.returns c).Start) a.spacings (directed a.up (below (pl (goal.at.returns c).Start))) a.p a.q a.r
+    ∙ by_order (pl start) a.spacings (directed a.up (below (pl start))) a.p a.q a.r
     c.squared_drop.ensures.0
     c.squared_length.ensures.0
     c.squared_drop-2.ensures.0

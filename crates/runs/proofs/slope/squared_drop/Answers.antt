@@ -22,16 +22,18 @@ in-range s i = all-at is_height _ (pos 0) refl s.requires.0 i
 
 pub apart-drop-requires : goal.apart-drop-requires
 apart-drop-requires c =
+    let start = (goal.at.apart-drop-requires c).Start in
     let p = c.args.p in
     let q = c.args.q in
-    rw (to_z-of_z (height-fits (read (goal.at.apart-drop-requires c).Start p) (in-range (goal.at.apart-drop-requires c).Start p)), to_z-of_z (height-fits (read (goal.at.apart-drop-requires c).Start q) (in-range (goal.at.apart-drop-requires c).Start q))) (in-range (goal.at.apart-drop-requires c).Start p, in-range (goal.at.apart-drop-requires c).Start q)
+    rw (to_z-of_z (height-fits (read start p) (in-range start p)), to_z-of_z (height-fits (read start q) (in-range start q))) (in-range start p, in-range start q)
 
 pub overflow_mul-result : goal.overflow_mul-result
 overflow_mul-result c = let e = c.apart-drop.ensures.1 in omega (arith, mul-le-mul e e)
 
 pub returns : goal.returns
 returns c =
+    let start = (goal.at.returns c).Start in
     let p = c.args.p in
     let q = c.args.q in
     let e = c.apart-drop.ensures in
-    (rw (e.0, to_z-of_z (height-fits (read (goal.at.returns c).Start p) (in-range (goal.at.returns c).Start p)), to_z-of_z (height-fits (read (goal.at.returns c).Start q) (in-range (goal.at.returns c).Start q))), mul-le-mul e.1 e.1)
+    (rw (e.0, to_z-of_z (height-fits (read start p) (in-range start p)), to_z-of_z (height-fits (read start q) (in-range start q))), mul-le-mul e.1 e.1)

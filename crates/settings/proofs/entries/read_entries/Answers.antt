@@ -29,17 +29,20 @@ module _ (c : After-byte_at-3) where
 
 pub read_name-requires-then-byte_at-rule : goal.read_name-requires-then-byte_at-rule
 read_name-requires-then-byte_at-rule c =
-    rule-whole (S (goal.at.read_name-requires-then-byte_at-rule c).After-byte_at-3) 5 (there (goal.at.read_name-requires-then-byte_at-rule c).After-byte_at-3) c.requires (kind (goal.at.read_name-requires-then-byte_at-rule c).After-byte_at-3) _ _ c.byte_at-3.ensures (rule (goal.at.read_name-requires-then-byte_at-rule c).After-byte_at-3) c.if-byte_at-rule.true
+    let after = (goal.at.read_name-requires-then-byte_at-rule c).After-byte_at-3 in
+    rule-whole (S after) 5 (there after) c.requires (kind after) _ _ c.byte_at-3.ensures (rule after) c.if-byte_at-rule.true
 
 pub returns-then-byte_at-rule : goal.returns-then-byte_at-rule
 returns-then-byte_at-rule c =
+    let after = (goal.at.returns-then-byte_at-rule c).After-byte_at-3 in
     c.read_name-then-byte_at-rule.ensures
-    ∙ sym (rule-said (S (goal.at.returns-then-byte_at-rule c).After-byte_at-3) 5 (there (goal.at.returns-then-byte_at-rule c).After-byte_at-3) c.requires (kind (goal.at.returns-then-byte_at-rule c).After-byte_at-3) _ _ c.byte_at-3.ensures (rule (goal.at.returns-then-byte_at-rule c).After-byte_at-3) c.if-byte_at-rule.true)
+    ∙ sym (rule-said (S after) 5 (there after) c.requires (kind after) _ _ c.byte_at-3.ensures (rule after) c.if-byte_at-rule.true)
 
 pub returns : goal.returns
 returns c =
+    let after = (goal.at.returns c).After-byte_at-3 in
     c.refused.ensures
-    ∙ sym (rule-refused (S (goal.at.returns c).After-byte_at-3) 5 (there (goal.at.returns c).After-byte_at-3) c.requires (kind (goal.at.returns c).After-byte_at-3) _ _ c.byte_at-3.ensures (rule (goal.at.returns c).After-byte_at-3) c.if-byte_at-rule.false)
+    ∙ sym (rule-refused (S after) 5 (there after) c.requires (kind after) _ _ c.byte_at-3.ensures (rule after) c.if-byte_at-rule.false)
 
 pub read_name-requires : goal.read_name-requires
 read_name-requires c = c.requires

@@ -1,4 +1,4 @@
--- by the version.
+-- By the version.
 use borrow.Author.Tests.{eq-eqb, ne_eqb}
 use Rattle.survey_file.proofs.header.header_size.Goals as goal
 

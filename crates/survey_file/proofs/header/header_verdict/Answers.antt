@@ -1,4 +1,4 @@
--- at each return the tests on the way say which row of the table is the first that holds.
+-- At each return the tests on the way say which row of the table is the first that holds.
 use Prim.Native.Nat.{ℕ}
 use mathlib.Core.Path.{◌≡◌, refl, sym, ◌∙◌, ap}
 use mathlib.Core.Bool.{Bool, true, false, not, ◌&&◌, ◌||◌}

@@ -1,4 +1,4 @@
--- by the version; one that is not the first has bytes 7 to 10.
+-- By the version; one that is not the first has bytes 7 to 10.
 use Prim.Native.Nat.{◌≤◌}
 use native.Mathlib.Omega.{arith}
 use borrow.Author.Tests.{eq-eqb, ne_eqb}

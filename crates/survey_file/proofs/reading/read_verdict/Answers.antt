@@ -1,4 +1,4 @@
--- after the rows about what stands before the heights, the tests on the way say which row of the
+-- After the rows about what stands before the heights, the tests on the way say which row of the
 -- table is the first that holds.
 use Prim.Native.Nat.{ℕ, ◌+◌, ◌-◌, ◌*◌, ◌≤◌}
 use mathlib.Core.Path.{◌≡◌, refl, sym, ◌∙◌, ap}

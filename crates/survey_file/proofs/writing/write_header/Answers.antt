@@ -1,4 +1,4 @@
--- a side is below 256 and the count fits 32 bits.
+-- A side is below 256 and the count fits 32 bits.
 use Prim.Native.Nat.{ℕ, ◌+◌, ◌-◌, ◌*◌}
 use mathlib.Core.Path.{◌≡◌, ◌∙◌}
 use native.Mathlib.Omega.{arith}

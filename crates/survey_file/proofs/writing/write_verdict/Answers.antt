@@ -1,4 +1,4 @@
--- rows 1, 15 and 2 lead, then row 3, then row 4.
+-- Rows 1, 15 and 2 lead, then row 3, then row 4.
 use mathlib.Core.Path.{◌≡◌, sym, ◌∙◌, ap}
 use mathlib.Core.Bool.{not}
 use mathlib.Core.List.{[], ◌∷◌}
