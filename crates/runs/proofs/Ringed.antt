@@ -24,7 +24,7 @@ use Rattle.rings.specs.declared.ring.Ring.{Ring}
 use Rattle.rings.specs.Rings.{held}
 use Rattle.rings.proofs.Rings.{held-vertex}
 use Rattle.runs.specs.Runs.{Saddle, StartsAt, pick_from, Starts}
-use Rattle.runs.proofs.Running.{get_d_front, get_or-back}
+use Rattle.runs.proofs.Running.{get_or-front, get_or-back}
 
 -- a saddle has neighbours below and above
 saddle-both : (a b : Bool) (k : ℕ) → 3 ≤ mark_for a b k → (a ≡ true) × (b ≡ true)
@@ -80,7 +80,7 @@ module _ {pl : Plot} {p : ℕ} {r : Ring} (z : Saddle pl p r) where
   pub twice-vertex : (j : ℕ) → j < r.len + r.len → Vertex (posts pl) (get_or (held r ++ held r) j 0)
   twice-vertex j h =
       either (ltb j r.len)
-      (λ e. let k = ltb-true j r.len e in rw (get_d_front (held r) (held r) j (omega (arith, long))) (member-vertex j k))
+      (λ e. let k = ltb-true j r.len e in rw (get_or-front (held r) (held r) j (omega (arith, long))) (member-vertex j k))
       (λ e.
       let k = ltb-false j r.len e in
       rw (get_or-back (held r) (held r) j (omega (arith, long))) (member-vertex (j - length (held r)) (omega (arith, long))))

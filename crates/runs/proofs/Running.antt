@@ -16,17 +16,17 @@ use Rattle.surface.proofs.General.Bools.{and_left, and_right}
 use Rattle.runs.specs.Runs.{run_from, StartsAt}
 
 -- a list that goes on with another
-pub get_d_front : (l m : List ℕ) (j : ℕ) → j < length l → get_or (l ++ m) j 0 ≡ get_or l j 0
-get_d_front l m j h = get_or-append l m 0 j h
+pub get_or-front : (l m : List ℕ) (j : ℕ) → j < length l → get_or (l ++ m) j 0 ≡ get_or l j 0
+get_or-front l m j h = get_or-append l m 0 j h
 
 pub get_or-back : (l m : List ℕ) (j : ℕ) → length l ≤ j → get_or (l ++ m) j 0 ≡ get_or m (j - length l) 0
 get_or-back l m j h =
     let e : j ≡ length l + (j - length l) = omega arith in
     ap (λ (k : ℕ). get_or (l ++ m) k 0) e ∙ get_or-append-add l m (j - length l) 0
 
-get_d_after : (x : List ℕ) (l : List (List ℕ)) (n : ℕ) → (n ≡ 0 → ⊥) → get_or (x ∷ l) n [] ≡ get_or l (n - 1) []
-get_d_after x l zero h = absurd (h refl)
-get_d_after x l (suc n) h = ap (λ (m : ℕ). get_or l m []) (omega arith)
+get_or-after : (x : List ℕ) (l : List (List ℕ)) (n : ℕ) → (n ≡ 0 → ⊥) → get_or (x ∷ l) n [] ≡ get_or l (n - 1) []
+get_or-after x l zero h = absurd (h refl)
+get_or-after x l (suc n) h = ap (λ (m : ℕ). get_or l m []) (omega arith)
 
 last-get_or : (x : ℕ) (l : List ℕ) → last_or x l ≡ get_or (x ∷ l) (length l) 0
 unfolding last_or
@@ -86,7 +86,7 @@ module _ (s : ℕ → Bool) where
             let n = eqb-false left 0 e in (
               record {
                 number = omega (arith, rw c at k.number);
-                same = k.same ∙ ap (λ (l : List (List ℕ)). get_or l left []) c ∙ get_d_after this later left n;
+                same = k.same ∙ ap (λ (l : List (List ℕ)). get_or l left []) c ∙ get_or-after this later left n;
               },
               omega arith,
             )

@@ -8,7 +8,7 @@ use mir.Val.{bool_byte}
 use lib.ListN.{length, get_or}
 use Rattle.surface.specs.Plot.{plot_of, below, directed}
 use Rattle.rings.specs.Rings.{held}
-use Rattle.runs.proofs.Running.{Seek, seek-none, seek-more, seek_found, seek-end, get_d_front}
+use Rattle.runs.proofs.Running.{Seek, seek-none, seek-more, seek_found, seek-end, get_or-front}
 use Rattle.runs.proofs.Ringed.{long, some, mixed, twice-vertex}
 use Rattle.runs.proofs.run_at.Goals as goal
 use Rattle.runs.proofs.run_at.Goals.{After-is_lower-here, Else-starts-left, In-loop-i}
@@ -23,7 +23,7 @@ side : (c : After-is_lower-here)
     c.is_lower-here.result ≡ directed a.up (below (plot_of a.grid a.heights.now)) q a.p
 side c =
     let r = held c.args.ring in
-    c.is_lower-here.ensures ∙ rw (c.member_at-in-loop-i.ensures, get_d_front r r c.loop-i.i (inside (goal.at.After-is_lower-here c).In-loop-i))
+    c.is_lower-here.ensures ∙ rw (c.member_at-in-loop-i.ensures, get_or-front r r c.loop-i.i (inside (goal.at.After-is_lower-here c).In-loop-i))
 
 more : (c : Else-starts-left)
     → let a = c.args in
@@ -49,7 +49,7 @@ loop-i-init c =
     let z = c.requires in
     let r = c.args.ring in
     let e : get_or (held r ++ held r) (r.len - 1) 0 ≡ get_or (held r) (length (held r) - 1) 0 =
-    get_d_front (held r) (held r) (r.len - 1) (omega (arith, long z, some z)) ∙ rw (long z) in (
+    get_or-front (held r) (held r) (r.len - 1) (omega (arith, long z, some z)) ∙ rw (long z) in (
       omega arith,
       rw (c.is_lower-before.ensures, c.member_at.ensures, e) (seek-none _ (held r) c.args.run (omega (arith, long z, some z)) (mixed z c.args.up)),
     )

@@ -8,7 +8,7 @@ use lib.ListN.{length, get_or}
 use Rattle.surface.specs.Plot.{plot_of, posts, Vertex, below, directed}
 use Rattle.rings.specs.Rings.{held}
 use Rattle.runs.specs.Slopes.{ahead}
-use Rattle.runs.proofs.Running.{while-stop, while-end, get_d_front, low_first, low-more, low-none}
+use Rattle.runs.proofs.Running.{while-stop, while-end, get_or-front, low_first, low-more, low-none}
 use Rattle.runs.proofs.Sloping.{steepest-first}
 use Rattle.runs.proofs.Ringed.{chosen-vertex, long, twice-long, twice-vertex}
 use Rattle.runs.proofs.steepest_from.Goals as goal
@@ -45,7 +45,7 @@ loop-j-init c =
     let i = c.args.i in
     let r = held c.args.ring in
     let h : i < length (r ++ r) = omega (arith, twice-long z, c.requires.place) in
-    let e : get_or (r ++ r) i 0 ≡ get_or r i 0 = get_d_front r r i (omega (arith, long z, c.requires.place)) in
+    let e : get_or (r ++ r) i 0 ≡ get_or r i 0 = get_or-front r r i (omega (arith, long z, c.requires.place)) in
     rw c.member_at-best.ensures (
       omega arith,
       omega (arith, c.requires.place),
