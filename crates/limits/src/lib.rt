@@ -88,7 +88,8 @@ pub fn spaced_plot_verdict(rows: u32, columns: u32, spacings: Spacings, heights:
 fn sheet_verdict(said: Sheet) -> Answer
     ensures { result ≡ verdict (sheet_rows (eqb said.code 13) (eqb said.code 14)) }
 {
-    if said.code == 13 {
+    let bad_sheet = said.code == 13;
+    if bad_sheet {
         return Answer { code: 13, place: 0 };
     }
     if said.code == 14 {

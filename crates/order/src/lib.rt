@@ -44,7 +44,8 @@ fn is_driven_before(grid: Grid, p: usize, q: usize) -> bool
     if r != s {
         return r < s;
     }
-    if r % 2 == 1 {
+    let turned = r % 2 == 1;
+    if turned {
         return q < p;
     }
     p < q

@@ -15,7 +15,8 @@ fn marks_verdict(said: Sheet, rows: u32, columns: u32, heights: &[i32], marks: &
     if lead.code != 0 {
         return lead;
     }
-    if marks.len() != heights.len() {
+    let other_size = marks.len() != heights.len();
+    if other_size {
         return Answer { code: 3, place: 0 };
     }
     Answer { code: 0, place: 0 }

@@ -29,10 +29,12 @@ pub fn round(t: i32) -> i32
 fn step(rest: i32) -> i32
     ensures { result ≡ step_from rest }
 {
-    if 5 < rest {
+    let above = 5 < rest;
+    if above {
         return 1;
     }
-    if rest < -5 {
+    let below = rest < -5;
+    if below {
         return -1;
     }
     0

@@ -52,7 +52,8 @@ fn put_end(buffer: &mut [u8], at: usize, end: u32) -> usize
     requires { at + 11 ≤ length buffer.old }
     ensures { Wrote 11 buffer.old buffer.new at (32 ∷ end_name end) result }
 {
-    if end as usize == VIRTUAL_PIT {
+    let pit = end as usize == VIRTUAL_PIT;
+    if pit {
         let letter = put_byte(buffer, at, b' ');
         return put_byte(buffer, letter, b'V');
     }

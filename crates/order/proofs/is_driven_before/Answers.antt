@@ -20,11 +20,11 @@ one-row c odd e =
     let a = c.args in
     sym (row-driven a.grid.columns a.p a.q c.if-r-s.false ∙ ap (λ (b : Bool). directed b ltb a.p a.q) e)
 
-pub returns-then-r-eq1 : goal.returns-then-r-eq1
-returns-then-r-eq1 c = one-row c.before _ (eq-eqb _ 1 c.if-r-eq1.true)
+pub returns-then-turned : goal.returns-then-turned
+returns-then-turned c = one-row c.before _ (eq-eqb _ 1 c.if-turned.true)
 
 pub returns : goal.returns
-returns c = one-row c.before _ (ne_eqb _ 1 c.if-r-eq1.false)
+returns c = one-row c.before _ (ne_eqb _ 1 c.if-turned.false)
 
 pub nonzero_div-r : goal.nonzero_div-r
 nonzero_div-r c = omega (arith, c.requires)

@@ -27,12 +27,12 @@ returns-then-lead-ne0 c =
     let e = c.lead_verdict-lead.ensures in
     e ∙ sym (leads-refused (_ ∷ _ ∷ _ ∷ _ ∷ []) _ tt (λ z. c.if-lead-ne0.true (code e ∙ z)))
 
-pub returns-then-marks-heights : goal.returns-then-marks-heights
-returns-then-marks-heights c =
-    let branch = (goal.at.returns-then-marks-heights c).Else-lead-ne0 in
-    sym (leads-passed (_ ∷ _ ∷ _ ∷ _ ∷ []) _ tt (led branch) ∙ row-holds _ _ (ap not (ne_eqb _ _ (λ h. c.if-marks-heights.true (h ∙ sym (size branch))))))
+pub returns-then-other_size : goal.returns-then-other_size
+returns-then-other_size c =
+    let branch = (goal.at.returns-then-other_size c).Else-lead-ne0 in
+    sym (leads-passed (_ ∷ _ ∷ _ ∷ _ ∷ []) _ tt (led branch) ∙ row-holds _ _ (ap not (ne_eqb _ _ (λ h. c.if-other_size.true (h ∙ sym (size branch))))))
 
 pub returns : goal.returns
 returns c =
     let branch = (goal.at.returns c).Else-lead-ne0 in
-    sym (leads-passed (_ ∷ _ ∷ _ ∷ _ ∷ []) _ tt (led branch) ∙ row-passed _ _ (ap not (eq-eqb _ _ (c.if-marks-heights.false ∙ size branch))) ∙ none_left)
+    sym (leads-passed (_ ∷ _ ∷ _ ∷ _ ∷ []) _ tt (led branch) ∙ row-passed _ _ (ap not (eq-eqb _ _ (c.if-other_size.false ∙ size branch))) ∙ none_left)
