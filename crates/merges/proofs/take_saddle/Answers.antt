@@ -96,9 +96,6 @@ all a e =
     let c = a.args.grid.columns in
     (a.loop-j.body.end, rw (← a.requires.pattern_value.0) (merged-from a.end_of-end.ensures.2 (merged-all (post_at c a.args.p) (upper_starts a.args.pattern) 8 a.loop-j.j e a.loop-j.invariant.2)))
 
-listed : (a : At-loop-j) → length a.loop-j.list ≡ length a.args.list.now
-listed a = a.loop-j.invariant.2.rising.size ∙ sym a.requires.rising.0.size
-
 pub returns-after-loop-j : goal.returns-after-loop-j
 returns-after-loop-j c = all (goal.at.returns-after-loop-j c).At-loop-j (omega (arith, starts-few c.args.pattern (omega (arith, c.ranges.pattern.fits))))
 
