@@ -4,39 +4,59 @@ use native.Mathlib.Omega.{arith}
 use mathlib.Core.Path.{◌≡◌, refl, sym, ◌∙◌, ap}
 use mathlib.Core.Bool.{Bool, true, false, cond, not, ◌&&◌, true≢false}
 use mathlib.Core.List.{List, [], ◌∷◌}
-use borrow.Author.Tests.{eq-eqb, ne_eqb, le-ltb}
+use borrow.Author.Tests.{le-ltb}
 use lib.Dec.{ltb, eqb}
 use lib.IntN.{ℤ}
 use lib.ListN.{length}
 use Rattle.surface.specs.Lists.{all, first_not}
 use Rattle.surface.specs.Plot.{Plot, posts, is_side, is_height}
-use Rattle.surface.specs.Refusals.{accepted, verdict, row_of, row1, row2, row4, row5, row6}
+use Rattle.surface.specs.Refusals.{accepted, verdict, row_of, row1, row4, row5, row6}
 use Rattle.surface.proofs.General.Bools.{either}
 use Rattle.surface.proofs.General.FirstNot.{all-first_not, ranged-all}
+use Rattle.std.specs.Prelude.{Ok, Err, Some, None, position}
+use Rattle.std.specs.List.{position_or_len}
+use Rattle.std.proofs.lemmas.Option.{none-some, cond_some}
+use Rattle.surface.proofs.General.Slices.{first_not-position}
+use Rattle.surface.specs.Refusals.{sheet_rows}
+use Rattle.surface.specs.Refused.{refused, sheet_of}
+use Rattle.surface.specs.Calls.{sheet_says}
+use Rattle.surface.specs.declared.Answer.{Answer}
+use Rattle.surface.specs.declared.Sheet.{Sheet}
+use Rattle.surface.specs.declared.Settings.{Settings}
+use Rattle.surface.specs.declared.Refusal.{Refusal}
+use Rattle.surface.specs.declared.Refusal.TheVariants.{BadSides}
+use Rattle.surface.proofs.OfCalls.Outcomes.{unless-passed, sheet-led}
 use Rattle.surface.proofs.OfCalls.Verdicts.{row-holds, row-passed, none_left}
 
-module _ (pl : Plot) where
-  pub sides-refused : is_side pl.rows && is_side pl.columns ≡ false → verdict (row1 pl.rows pl.columns ∷ row2 pl ∷ []) ≡ record { code = 1; place = 0 }
-  sides-refused h = row-holds _ _ (ap not h)
+-- what a passed row 1 says
+pub sides-passed : (rows columns : ℕ) → accepted ≡ verdict (row1 rows columns ∷ []) → is_side rows && is_side columns ≡ true
+sides-passed rows columns e = unless-passed BadSides _ e
 
-  module _ (sides : is_side pl.rows && is_side pl.columns ≡ true) where
-    pub size-refused : (length pl.heights ≡ posts pl → ⊥) → verdict (row1 pl.rows pl.columns ∷ row2 pl ∷ []) ≡ record { code = 2; place = 0 }
-    size-refused k = row-passed _ _ (ap not sides) ∙ row-holds _ _ (ap not (ne_eqb _ _ k))
+-- what a sheet that is read says of the rows that lead
+module _ (s : List ℕ) where
+  abbrev led : Answer
+  led = verdict (sheet_rows (eqb (sheet_says s).code 13) (eqb (sheet_says s).code 14))
 
-    pub size-passed : length pl.heights ≡ posts pl → verdict (row1 pl.rows pl.columns ∷ row2 pl ∷ []) ≡ accepted
-    size-passed k = row-passed _ _ (ap not sides) ∙ row-passed _ _ (ap not (eq-eqb _ _ k)) ∙ none_left
+  pub sheet-refused : (why : Refusal) → sheet_of (Err why) ≡ sheet_says s → refused why ≡ led
+  sheet-refused why e = ap (λ (x : Sheet). record { code = x.code; place = x.place }) e ∙ sym (sheet-led s)
 
--- row 15 between them
-pub spaced-rows :
-    (a b c : Bool)
-    → let plain = verdict (row_of 1 a ∷ row_of 2 c ∷ []) in
-    verdict (row_of 1 a ∷ row_of 15 b ∷ row_of 2 c ∷ []) ≡ cond (not (eqb plain.code 1) && b) (record { code = 15; place = 0 }) plain
-unfolding verdict
-spaced-rows true b c = refl
-spaced-rows false true true = refl
-spaced-rows false true false = refl
-spaced-rows false false true = refl
-spaced-rows false false false = refl
+  pub sheet-passed : (said : Settings) → sheet_of (Ok said) ≡ sheet_says s → accepted ≡ led
+  sheet-passed said e = ap (λ (x : Sheet). record { code = x.code; place = x.place }) e ∙ sym (sheet-led s)
+
+-- what `position` finds
+module _ (l : List ℤ) where
+  abbrev place : ℕ
+  place = position_or_len (λ h. not (is_height h)) l
+
+  pub found-first : (p : ℕ) → Some p ≡ position (λ h. not (is_height h)) l → first_not is_height l ≡ p
+  found-first p e = first_not-position is_height l ∙ (cond_some (ltb place (length l)) place p (sym e)).1
+
+  pub found-none : None ≡ position (λ h. not (is_height h)) l → ltb (first_not is_height l) (length l) ≡ false
+  found-none e = rw (first_not-position is_height l) (by (ltb place (length l)) e)
+    where
+      by : (b : Bool) → None ≡ cond b (Some place) None → b ≡ false
+      by true e = absurd (none-some place e)
+      by false e = refl
 
 pub range-passed : (hs : List ℤ) → all is_height hs ≡ true → verdict (row4 is_height hs ∷ []) ≡ accepted
 range-passed hs h =

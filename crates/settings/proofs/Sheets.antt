@@ -14,11 +14,17 @@ use Rattle.surface.specs.Words.{word_at}
 use Rattle.surface.specs.Settings.{entries_in, entries_of, extent, is_bad_sheet, are_entries, has_bad_entry, value_of, rule_in, name_in, name_length, name_bytes}
 use Rattle.surface.specs.Refusals.{Row, accepted, verdict, row3, row13, row14, sheet_rows, sheet_verdict, settings_verdict}
 use Rattle.surface.specs.Calls.{sheet_says, settings_answer, settings_name}
+use Rattle.surface.specs.declared.Answer.{Answer}
+use Rattle.surface.specs.declared.Sheet.{Sheet}
 use Rattle.surface.proofs.General.Bools.{either, or_right}
 use Rattle.surface.proofs.General.ListOf.{list_of-ext}
 use Rattle.surface.proofs.OfCalls.Verdicts.{passed, row-holds, row-passed, none_left, leads-refused, leads-passed}
 use Rattle.settings.specs.Walk.{entries_from, Whole, refusal, said_in}
 use Rattle.settings.proofs.Says.{Ends, all_end}
+
+-- a refused sheet, by the answer of its refusal
+pub sheet_by : {a b : Answer} → a ≡ b → Path Sheet (record { code = a.code; place = a.place; rule = 0; named = 0 }) (record { code = b.code; place = b.place; rule = 0; named = 0 })
+sheet_by e = ap (λ (a : Answer). record { code = a.code; place = a.place; rule = 0; named = 0 }) e
 
 module _ (s : List ℕ) where
   -- ---- its frame

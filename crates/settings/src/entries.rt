@@ -2,11 +2,11 @@
 ghost use Rattle.std.specs.Prelude.{◌≡◌, ◌<◌, length, drop};
 ghost use Rattle.surface.specs.Lists.{all};
 ghost use Rattle.surface.specs.Settings.{is_printable, are_entries};
+ghost use Rattle.surface.specs.Refused.{rule_number, sheet_of};
 ghost use Rattle.settings.specs.Walk.{header_size, entries_from, Whole, said_in, said_with};
 
 use crate::frame::{HEADER, byte_at};
-use crate::refused;
-use surface::{DEFAULT_RULE, HIGHEST_RULE, LOWEST_RULE, NAME_LENGTH, Sheet};
+use surface::{DEFAULT_RULE, NAME_LENGTH, Refusal, Rule, Settings};
 use words::wide;
 
 // The kinds of entries.
@@ -46,40 +46,29 @@ fn is_name(sheet: &[u8], at: usize) -> bool
 }
 
 // What a sheet says that has this rule and the entries from `at` on.
-fn read_name(sheet: &[u8], at: usize, rule: u32) -> Sheet
+fn read_name(sheet: &[u8], at: usize, rule: Rule) -> Result<Settings, Refusal>
     requires { Whole sheet.now at }
-    ensures { result ≡ said_with rule (entries_from sheet.now at) }
+    ensures { sheet_of result ≡ said_with (rule_number rule) (entries_from sheet.now at) }
 {
     if sheet.len() <= at {
-        return Sheet {
-            code: 0,
-            place: 0,
-            rule,
-            named: 0,
-        };
+        return Ok(Settings { rule, named: 0 });
     }
-    if is_name(sheet, at) {
-        return Sheet {
-            code: 0,
-            place: 0,
-            rule,
-            named: wide(byte_at(sheet, at + 1)),
-        };
-    }
-    refused(14)
+    Refusal::BadEntry.unless(is_name(sheet, at))?;
+    Ok(Settings {
+        rule,
+        named: wide(byte_at(sheet, at + 1)),
+    })
 }
 
 // What all entries say: row 14 of the table, or the rule and the name. A rule can only be the first: byte 6 is then its length, byte 7 the rule.
-pub(crate) fn read_entries(sheet: &[u8]) -> Sheet
+pub(crate) fn read_entries(sheet: &[u8]) -> Result<Settings, Refusal>
     requires { Whole sheet.now header_size }
-    ensures { result ≡ said_in (entries_from sheet.now header_size) }
+    ensures { sheet_of result ≡ said_in (entries_from sheet.now header_size) }
 {
     if byte_at(sheet, HEADER) != RULE {
         return read_name(sheet, HEADER, DEFAULT_RULE);
     }
-    let rule = wide(byte_at(sheet, 7));
-    if (byte_at(sheet, 6) == 1) & ((rule == LOWEST_RULE) | (rule == HIGHEST_RULE)) {
-        return read_name(sheet, 8, rule);
-    }
-    refused(14)
+    Refusal::BadEntry.unless(byte_at(sheet, 6) == 1)?;
+    let rule = Rule::try_from(byte_at(sheet, 7))?;
+    read_name(sheet, 8, rule)
 }

@@ -4,61 +4,48 @@
 mod entries;
 mod frame;
 
-ghost use Rattle.std.specs.Prelude.{◌≡◌, ◌+◌, ◌-◌, ◌≤◌, min, length, get_or};
+ghost use Rattle.std.specs.Prelude.{◌≡◌, ◌+◌, ◌-◌, ◌≤◌, min, length, get_or, Ok};
 ghost use Rattle.surface.specs.Lists.{list_of, stores};
 ghost use Rattle.surface.specs.Settings.{name_length};
 ghost use Rattle.surface.specs.Calls.{sheet_says, grid_said, settings_answer, settings_name};
-ghost use Rattle.settings.specs.Walk.{refusal};
+ghost use Rattle.surface.specs.Refused.{sheet_of};
 
 use entries::read_entries;
 use frame::is_bad;
-use surface::{DEFAULT_RULE, Grid, HIGHEST_RULE, NAME_LENGTH, Sheet};
+use surface::{DEFAULT_RULE, Grid, NAME_LENGTH, Refusal, Rule, Settings};
 
-// A refusal: its number, and 0 for all else.
-fn refused(code: u32) -> Sheet
-    ensures { result ≡ refusal code }
-{
-    Sheet {
-        code,
-        place: 0,
-        rule: 0,
-        named: 0,
-    }
-}
+// What no sheet says.
+const NO_SHEET: Settings = Settings {
+    rule: DEFAULT_RULE,
+    named: 0,
+};
 
 // What a settings sheet says; the empty list is no sheet. Most calls are lent none: this is small, and is inlined there.
-pub fn read_sheet(sheet: &[u8]) -> Sheet
-    ensures { result ≡ sheet_says sheet.now }
+pub fn read_sheet(sheet: &[u8]) -> Result<Settings, Refusal>
+    ensures { sheet_of result ≡ sheet_says sheet.now }
 {
-    if sheet.len() == 0 {
-        return Sheet {
-            code: 0,
-            place: 0,
-            rule: DEFAULT_RULE,
-            named: 0,
-        };
+    if sheet.is_empty() {
+        return Ok(NO_SHEET);
     }
     read_bytes(sheet)
 }
 
 // The same by the bytes alone: rows 13 and 14 of the table, in that order. (`settings` calls this too: with one caller it would be inlined above.)
-fn read_bytes(sheet: &[u8]) -> Sheet
-    ensures { result ≡ sheet_says sheet.now }
+fn read_bytes(sheet: &[u8]) -> Result<Settings, Refusal>
+    ensures { sheet_of result ≡ sheet_says sheet.now }
 {
-    if is_bad(sheet) {
-        return refused(13);
-    }
+    Refusal::BadSheet.unless(!is_bad(sheet))?;
     read_entries(sheet)
 }
 
 // The grid of a call with this sheet and these sides, by the rule that the sheet says.
-pub fn grid_of(said: Sheet, rows: u32, columns: u32) -> Grid
-    ensures { result ≡ grid_said said rows columns }
+pub fn grid_of(said: Settings, rows: u32, columns: u32) -> Grid
+    ensures { result ≡ grid_said (sheet_of (Ok said)) rows columns }
 {
     Grid {
         rows: rows as usize,
         columns: columns as usize,
-        highest: said.rule == HIGHEST_RULE,
+        highest: matches!(said.rule, Rule::Highest),
     }
 }
 
@@ -107,17 +94,12 @@ fn put_name(sheet: &[u8], at: usize, name: &mut [u8])
 }
 
 // The call: gives the rule and the name's length, and writes the name, with which a sheet ends. Refused: the list stays as it was.
-pub fn settings(sheet: &[u8], name: &mut [u8]) -> Sheet
-    ensures value { result ≡ settings_answer sheet.now name.old }
+pub fn settings(sheet: &[u8], name: &mut [u8]) -> Result<Settings, Refusal>
+    ensures value { sheet_of result ≡ settings_answer sheet.now name.old }
     ensures name_after { name.new ≡ settings_name sheet.now name.old }
 {
-    let said = read_bytes(sheet);
-    if said.code != 0 {
-        return said;
-    }
-    if name.len() != NAME_LENGTH {
-        return refused(3);
-    }
+    let said = read_bytes(sheet)?;
+    Refusal::BadListLength.unless(name.len() == NAME_LENGTH)?;
     put_name(sheet, sheet.len() - said.named as usize, name);
-    said
+    Ok(said)
 }

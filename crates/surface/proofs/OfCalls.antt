@@ -1,5 +1,6 @@
 -- The outcomes of the calls: the table of refusals, what acceptance says, files, series, demand 3, and the example plots.
 pub mod Verdicts
+pub mod Outcomes
 pub mod Accepted
 pub mod MarkCalls
 pub mod RingCall

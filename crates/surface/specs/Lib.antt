@@ -49,6 +49,7 @@ pub mod SurveyFile
 -- OfCalls: what calls refuse, answer and leave, and the lister's text.
 pub mod Settings
 pub mod Refusals
+pub mod Refused
 pub mod Calls
 pub mod Version
 pub mod Series

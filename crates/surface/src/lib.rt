@@ -1,6 +1,10 @@
 // What the calls share: their answers, the grid that the functions below them work on, and the numbers of docs/SPECIFICATION.md by name.
 #![tactic(auto)]
 
+ghost use Rattle.std.specs.Prelude.{◌≡◌, not, [], ◌∷◌};
+ghost use Rattle.surface.specs.Refusals.{verdict};
+ghost use Rattle.surface.specs.Refused.{refused, outcome, row_for, Ruled};
+
 // The version of the library, which sn_version and the lister tell. The header has it too, and the tests hold the two to each other.
 pub const VERSION_MAJOR: u32 = 4;
 
@@ -33,12 +37,29 @@ pub const RING_LENGTH: usize = 8;
 
 pub const NAME_LENGTH: usize = 32;
 
-// The rules by which cells are cut, through their lowest posts and through their highest, and the one where nothing is said.
-pub const LOWEST_RULE: u32 = 1;
+// The rules by which cells are cut, through their lowest posts, 1 in a sheet, and through their highest, 2; and the one where nothing is said.
+#[derive(Clone, Copy)]
+pub enum Rule {
+    Lowest,
+    Highest,
+}
 
-pub const HIGHEST_RULE: u32 = 2;
+pub const DEFAULT_RULE: Rule = Rule::Highest;
 
-pub const DEFAULT_RULE: u32 = 2;
+// The rule that a byte of a sheet names.
+impl TryFrom<u8> for Rule {
+    type Error = Refusal;
+
+    ghost try_from_gives = { λ byte result. Ruled byte result };
+
+    fn try_from(byte: u8) -> Result<Rule, Refusal> {
+        match byte {
+            1 => Ok(Rule::Lowest),
+            2 => Ok(Rule::Highest),
+            _ => Err(Refusal::BadEntry),
+        }
+    }
+}
 
 // Which way a walk goes: down to a pit or up to a peak.
 pub const DOWN: bool = false;
@@ -64,6 +85,69 @@ pub struct Grid {
     pub rows: usize,
     pub columns: usize,
     pub highest: bool,
+}
+
+// What a settings sheet says: the rule, and how many bytes the plot's name has.
+#[derive(Clone, Copy)]
+pub struct Settings {
+    pub rule: Rule,
+    pub named: u32,
+}
+
+// Why a call is refused: the rows of the table in docs/SPECIFICATION.md, "Refusals", from 1 to 15.
+#[derive(Clone, Copy)]
+pub enum Refusal {
+    BadSides,
+    BadHeightsLength,
+    BadListLength,
+    // the first such post
+    HeightOutOfRange(u32),
+    NoSuchPost,
+    BadNewHeight,
+    NotASaddle,
+    NoSuchRun,
+    LineTooLong,
+    FileTooShort,
+    BadVersion,
+    BadCount,
+    BadSheet,
+    BadEntry,
+    BadSpacing,
+}
+
+impl Refusal {
+    // Refused for this unless a test passes.
+    pub fn unless(self, passes: bool) -> Result<(), Refusal>
+        ensures { outcome result ≡ verdict (row_for self (not passes) ∷ []) }
+    {
+        if passes { Ok(()) } else { Err(self) }
+    }
+}
+
+// The number and the place that C is told.
+impl From<Refusal> for Answer {
+    ghost from_gives = { λ why answer. answer ≡ refused why };
+
+    fn from(why: Refusal) -> Answer {
+        let (code, place) = match why {
+            Refusal::BadSides => (1, 0),
+            Refusal::BadHeightsLength => (2, 0),
+            Refusal::BadListLength => (3, 0),
+            Refusal::HeightOutOfRange(post) => (4, post),
+            Refusal::NoSuchPost => (5, 0),
+            Refusal::BadNewHeight => (6, 0),
+            Refusal::NotASaddle => (7, 0),
+            Refusal::NoSuchRun => (8, 0),
+            Refusal::LineTooLong => (9, 0),
+            Refusal::FileTooShort => (10, 0),
+            Refusal::BadVersion => (11, 0),
+            Refusal::BadCount => (12, 0),
+            Refusal::BadSheet => (13, 0),
+            Refusal::BadEntry => (14, 0),
+            Refusal::BadSpacing => (15, 0),
+        };
+        Answer { code, place }
+    }
 }
 
 // What every call answers: the refusal's number and place, 0 and 0 where it was accepted, and then its values, all 0 where it was refused.

@@ -1,11 +1,8 @@
 -- No sheet, or what its bytes say.
-use native.Mathlib.Omega.{arith}
+use borrow.Author.Tests.{eqb-true}
 use mathlib.Core.Path.{sym}
 use Rattle.settings.proofs.Sheets.{says-empty}
 use Rattle.settings.proofs.read_sheet.Goals as goal
 
-pub returns-then-sheet-eq0 : goal.returns-then-sheet-eq0
-returns-then-sheet-eq0 c = sym (says-empty c.args.sheet.now (omega arith))
-
-pub returns : goal.returns
-returns c = c.read_bytes.ensures
+pub returns-then-is_empty : goal.returns-then-is_empty
+returns-then-is_empty c = sym (says-empty c.args.sheet.now (eqb-true _ 0 (sym c.if-is_empty.ensures)))

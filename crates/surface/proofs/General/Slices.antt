@@ -4,13 +4,13 @@ use native.Mathlib.Omega.{arith}
 use native.Mathlib.Decide.{dec_lt}
 use native.Mathlib.Nat.{zero-add}
 use mathlib.Core.Path.{◌≡◌, refl, sym, ◌∙◌, ap}
-use mathlib.Core.Bool.{Bool, cond, ◌&&◌}
+use mathlib.Core.Bool.{not, not-not, Bool, cond, ◌&&◌}
 use mathlib.Core.List.{List, [], ◌∷◌, map}
 use lib.ListN.{length, get_or, take, replicate}
 use lib.Seq.{ext_get_or}
 use borrow.Rule.Slice.PartMut.{put_mid}
 use borrow.Author.Rules.{rules}
-use Rattle.std.specs.List.{fold, prefix_len, list_all, sum, count_by}
+use Rattle.std.specs.List.{fold, prefix_len, position_or_len, list_all, sum, count_by}
 use Rattle.std.proofs.lemmas.List.{places, get_or-replicate, length-replicate, map-id}
 use Rattle.surface.specs.Lists.{all, count, total, first_not, list_of, stores, one}
 use Rattle.surface.proofs.General.ListOf.{length-list_of, get_or-list_of}
@@ -72,6 +72,14 @@ first_not-prefix_len s [] = refl
 first_not-prefix_len s (x ∷ l) =
     let e : suc (prefix_len s l) ≡ 1 + prefix_len s l = omega arith in
     ap (λ n. cond (s x) (suc n) 0) (first_not-prefix_len s l) ∙ ap (λ n. cond (s x) n 0) e
+
+-- the place of the first that fails, as `position` looks for it
+pub first_not-position : {A : Type 0} (s : A → Bool) (l : List A) → first_not s l ≡ position_or_len (λ x. not (s x)) l
+unfolding first_not
+first_not-position s [] = refl
+first_not-position s (x ∷ l) =
+    let e : suc (position_or_len (λ x. not (s x)) l) ≡ 1 + position_or_len (λ x. not (s x)) l = omega arith in
+    ap (λ n. cond (s x) (suc n) 0) (first_not-position s l) ∙ ap (λ n. cond (s x) n 0) e ∙ ap (λ b. cond b (1 + position_or_len (λ x. not (s x)) l) 0) (sym (not-not (s x)))
 
 -- a fold that adds
 pub fold-total : {A : Type 0} (f : A → ℕ) (a : ℕ) (l : List A) → fold (λ n x. n + f x) a l ≡ a + total (map f l)

@@ -1,0 +1,48 @@
+-- After the rows that lead, rows 4 and 5.
+use mathlib.Core.Path.{◌≡◌, sym, ◌∙◌, ap}
+use mathlib.Core.List.{[], ◌∷◌}
+use native.Mathlib.Omega.{arith}
+use lib.ListN.{length}
+use Rattle.surface.specs.Plot.{Plot, posts, Sides}
+use Rattle.surface.specs.Spacings.{Spaced}
+use Rattle.surface.specs.Refusals.{next_verdict}
+use Rattle.surface.specs.Refused.{outcome}
+use Rattle.surface.specs.Calls.{plot_by}
+use Rattle.surface.proofs.OfCalls.Verdicts.{code}
+use Rattle.surface.proofs.OfCalls.Outcomes.{check-refused, check-passed, handed}
+use Rattle.surface.proofs.OfCalls.Accepted.{spaced-sized}
+use Rattle.limits.proofs.Table.{range-posts}
+use Rattle.limits.proofs.post_grid.Goals as goal
+use Rattle.limits.proofs.post_grid.Goals.{In_ok-grid}
+
+module _ (c : In_ok-grid) where
+  abbrev asked : Plot
+  asked = let a = c.args in plot_by a.sheet.now a.rows a.columns a.heights.now
+
+  sized : Sides asked.rows asked.columns × (length asked.heights ≡ posts asked) × Spaced c.args.spacings
+  sized = spaced-sized asked _ (sym (code c.in_ok-grid.ensures.value))
+
+pub returns-in_err-grid-clause-value : goal.returns-in_err-grid-clause-value
+unfolding next_verdict
+returns-in_err-grid-clause-value c =
+    ap outcome (handed _ _ c.from_residual.ensures.1) ∙ check-refused (_ ∷ _ ∷ _ ∷ _ ∷ _ ∷ []) _ tt _ c.in_err-grid.ensures.value
+
+pub check_post-requires : goal.check_post-requires
+check_post-requires c = let k = sized c in omega (arith, k.0, k.1)
+
+pub returns-in_err-check_post-clause-value : goal.returns-in_err-check_post-clause-value
+unfolding next_verdict
+returns-in_err-check_post-clause-value c =
+    let here = (goal.at.returns-in_err-check_post-clause-value c).In_ok-grid in
+    ap outcome (handed _ _ c.from_residual-in_err-check_post.ensures.1)
+    ∙ c.in_err-check_post.ensures
+    ∙ range-posts (asked here) _ (sized here).1
+    ∙ sym (check-passed (_ ∷ _ ∷ _ ∷ _ ∷ _ ∷ []) _ tt c.in_ok-grid.ensures.value)
+
+pub returns-clause-value : goal.returns-clause-value
+unfolding next_verdict
+returns-clause-value c =
+    let here = (goal.at.returns-clause-value c).In_ok-grid in
+    c.in_ok-check_post.ensures
+    ∙ range-posts (asked here) _ (sized here).1
+    ∙ sym (check-passed (_ ∷ _ ∷ _ ∷ _ ∷ _ ∷ []) _ tt c.in_ok-grid.ensures.value)
