@@ -44,9 +44,7 @@ pub(crate) fn put_codes(heights: &[i32], grid: Grid, p: usize, list: &mut [u8])
     ensures { list.new ≡ ring_bytes (plot_of grid heights.now) p }
 {
     let ring = ring_at(heights, grid, p);
-    let mut i = 0;
-    while i < RING_LENGTH {
+    for i in 0..RING_LENGTH {
         list[i] = code_at(heights, grid, p, ring, i);
-        i += 1;
     }
 }

@@ -6,33 +6,38 @@ mod codes;
 ghost use Rattle.std.specs.Prelude.{◌≡◌};
 ghost use Rattle.surface.specs.Flags.{runs_for};
 ghost use Rattle.surface.specs.Refusals.{ring_verdict};
-ghost use Rattle.surface.specs.Calls.{plot_said, plot_by, ring_answer, ring_list};
+ghost use Rattle.surface.specs.Refused.{outcome, IsGridOf};
+ghost use Rattle.surface.specs.Calls.{plot_by, ring_answer, ring_list};
+ghost use Rattle.ring.specs.Told.{ring_mark_of};
 
 use codes::put_codes;
-use limits::{lead_verdict, range_verdict};
+use limits::{check_post, plot_grid};
 use post::mark::mark_at;
-use settings::{grid_of, read_sheet};
-use surface::{Answer, PIT, RING_LENGTH, RingMark, SADDLE, Sheet};
+use surface::{Grid, PIT, RING_LENGTH, Refusal, SADDLE};
 
-// Rows 13, 14 and 1 to 5 of the table.
-fn ring_verdict(
-    said: Sheet,
+// How many lower runs a post has, and its mark.
+#[derive(Clone, Copy)]
+pub struct Ringed {
+    pub k: u32,
+    pub mark: u32,
+}
+
+// Rows 13, 14 and 1 to 5 of the table: the grid of what passes.
+fn ring_grid(
+    sheet: &[u8],
     rows: u32,
     columns: u32,
     heights: &[i32],
     post: u32,
     ring: &[u8],
-) -> Answer
-    ensures { result ≡ ring_verdict (plot_said said rows columns heights.now) post ring.now }
+) -> Result<Grid, Refusal>
+    ensures value { outcome result ≡ ring_verdict (plot_by sheet.now rows columns heights.now) post ring.now }
+    ensures grid { IsGridOf (plot_by sheet.now rows columns heights.now) result }
 {
-    let lead = lead_verdict(said, rows, columns, heights);
-    if lead.code != 0 {
-        return lead;
-    }
-    if ring.len() != RING_LENGTH {
-        return Answer { code: 3, place: 0 };
-    }
-    range_verdict(heights, post)
+    let grid = plot_grid(sheet, rows, columns, heights)?;
+    Refusal::BadListLength.unless(ring.len() == RING_LENGTH)?;
+    check_post(heights, post)?;
+    Ok(grid)
 }
 
 // The lower runs of a post that has this mark.
@@ -53,29 +58,16 @@ pub fn ring(
     heights: &[i32],
     post: u32,
     ring: &mut [u8],
-) -> RingMark
-    ensures value { result ≡ ring_answer (plot_by sheet.now rows columns heights.now) post ring.old }
+) -> Result<Ringed, Refusal>
+    ensures value { ring_mark_of result ≡ ring_answer (plot_by sheet.now rows columns heights.now) post ring.old }
     ensures ring_after { ring.new ≡ ring_list (plot_by sheet.now rows columns heights.now) post ring.old }
 {
-    let said = read_sheet(sheet);
-    let refusal = ring_verdict(said, rows, columns, heights, post, ring);
-    let code = refusal.code;
-    if code != 0 {
-        return RingMark {
-            code,
-            place: refusal.place,
-            k: 0,
-            mark: 0,
-        };
-    }
-    let grid = grid_of(said, rows, columns);
+    let grid = ring_grid(sheet, rows, columns, heights, post, ring)?;
     let p = post as usize;
     put_codes(heights, grid, p, ring);
     let mark = mark_at(heights, grid, p);
-    RingMark {
-        code: 0,
-        place: 0,
+    Ok(Ringed {
         k: runs_for(mark),
         mark: mark as u32,
-    }
+    })
 }

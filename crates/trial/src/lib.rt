@@ -2,35 +2,36 @@
 // a list of the call's own.
 #![tactic(auto)]
 
-ghost use Rattle.std.specs.Prelude.{◌≡◌, true, length};
+ghost use Rattle.std.specs.Prelude.{◌≡◌, true, length, Ok};
 ghost use Rattle.surface.specs.Plot.{plot_of, posts, reshot, is_height, PostOf};
 ghost use Rattle.surface.specs.Marks.{marks_of};
 ghost use Rattle.surface.specs.Refusals.{accepted, trial_verdict};
-ghost use Rattle.surface.specs.Calls.{plot_said, plot_by, tried_by, trial_answer};
+ghost use Rattle.surface.specs.Refused.{outcome, IsGridOf};
+ghost use Rattle.surface.specs.Calls.{plot_by, tried_by, trial_answer};
+ghost use Rattle.trial.specs.Told.{tried_of};
 
 use bands::recount;
-use limits::{lead_verdict, shot_verdict};
+use limits::{check_shot, plot_grid};
 use pattern_tally::count_patterns;
 use patterns::pattern_plot;
-use settings::{grid_of, read_sheet};
-use surface::{Answer, Grid, MAX_POSTS, Sheet, TrialCounts};
+use retally::BeforeAfter;
+use surface::{Grid, MAX_POSTS, Refusal};
 
-// Rows 13, 14, 1, 2 and 4 to 6 of the table: a re-shoot's but for 3, since no marks are lent.
-fn trial_verdict(
-    said: Sheet,
+// Rows 13, 14, 1, 2 and 4 to 6 of the table, a re-shoot's but for 3, since no marks are lent: the grid of what passes.
+fn trial_grid(
+    sheet: &[u8],
     rows: u32,
     columns: u32,
     heights: &[i32],
     post: u32,
     height: i32,
-) -> Answer
-    ensures { result ≡ trial_verdict (plot_said said rows columns heights.now) post height }
+) -> Result<Grid, Refusal>
+    ensures value { outcome result ≡ trial_verdict (plot_by sheet.now rows columns heights.now) post height }
+    ensures grid { IsGridOf (plot_by sheet.now rows columns heights.now) result }
 {
-    let lead = lead_verdict(said, rows, columns, heights);
-    if lead.code != 0 {
-        return lead;
-    }
-    shot_verdict(heights, post, height)
+    let grid = plot_grid(sheet, rows, columns, heights)?;
+    check_shot(heights, post, height)?;
+    Ok(grid)
 }
 
 // The counts of the plot and of the plot with the new height. The list is for the patterns.
@@ -40,23 +41,14 @@ fn count_now_and_then(
     post: usize,
     height: i32,
     patterns: &mut [u8],
-) -> TrialCounts
+) -> BeforeAfter
     requires { PostOf (plot_of grid heights.now) post × (is_height height ≡ true) × (length patterns.old ≡ posts (plot_of grid heights.now)) }
-    ensures { result ≡ tried_by accepted (marks_of (plot_of grid heights.now)) (marks_of (reshot (plot_of grid heights.now) post height)) }
+    ensures { tried_of (Ok result) ≡ tried_by accepted (marks_of (plot_of grid heights.now)) (marks_of (reshot (plot_of grid heights.now) post height)) }
 {
     pattern_plot(heights, grid, patterns);
-    let t = count_patterns(patterns);
-    let u = recount(heights, grid, post, height, patterns, t);
-    TrialCounts {
-        code: 0,
-        place: 0,
-        peaks: t.peaks,
-        pits: t.pits,
-        saddles: t.saddles,
-        newPeaks: u.peaks,
-        newPits: u.pits,
-        newSaddles: u.saddles,
-    }
+    let before = count_patterns(patterns);
+    let after = recount(heights, grid, post, height, patterns, before);
+    BeforeAfter { before, after }
 }
 
 // The counts that hold and those that would hold with a new height at one post.
@@ -67,26 +59,11 @@ pub fn trial(
     heights: &[i32],
     post: u32,
     height: i32,
-) -> TrialCounts
-    ensures { result ≡ trial_answer (plot_by sheet.now rows columns heights.now) post height }
+) -> Result<BeforeAfter, Refusal>
+    ensures { tried_of result ≡ trial_answer (plot_by sheet.now rows columns heights.now) post height }
 {
-    let said = read_sheet(sheet);
-    let verdict = trial_verdict(said, rows, columns, heights, post, height);
-    let code = verdict.code;
-    if code != 0 {
-        return TrialCounts {
-            code,
-            place: verdict.place,
-            peaks: 0,
-            pits: 0,
-            saddles: 0,
-            newPeaks: 0,
-            newPits: 0,
-            newSaddles: 0,
-        };
-    }
-    let grid = grid_of(said, rows, columns);
+    let grid = trial_grid(sheet, rows, columns, heights, post, height)?;
     let n = heights.len();
     let mut patterns = [0u8; MAX_POSTS];
-    count_now_and_then(heights, grid, post as usize, height, &mut patterns[..n])
+    Ok(count_now_and_then(heights, grid, post as usize, height, &mut patterns[..n]))
 }

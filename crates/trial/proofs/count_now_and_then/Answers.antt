@@ -28,17 +28,17 @@ held s = search rules
 pub pattern_plot-requires : goal.pattern_plot-requires
 pattern_plot-requires c = let a = c.requires in (a.0.valid, a.2)
 
-pub count_patterns-t-requires : goal.count_patterns-t-requires
-count_patterns-t-requires c =
+pub count_patterns-before-requires : goal.count_patterns-before-requires
+count_patterns-before-requires c =
     let a = c.requires in
     omega (arith, c.pattern_plot.auto.patterns, a.2, a.0.valid.sides)
 
-pub recount-u-requires : goal.recount-u-requires
-recount-u-requires c =
-    rw (held (goal.at.recount-u-requires c).Start) (c.requires.0, c.requires.1, c.pattern_plot.ensures, rw (marks-told _ c.requires.0.valid c.pattern_plot.ensures) at c.count_patterns-t.ensures)
+pub recount-after-requires : goal.recount-after-requires
+recount-after-requires c =
+    rw (held (goal.at.recount-after-requires c).Start) (c.requires.0, c.requires.1, c.pattern_plot.ensures, rw (marks-told _ c.requires.0.valid c.pattern_plot.ensures) at c.count_patterns-before.ensures)
 
 pub returns : goal.returns
 returns c =
-    let t = rw (marks-told _ c.requires.0.valid c.pattern_plot.ensures) at c.count_patterns-t.ensures in
-    let u = rw (held (goal.at.returns c).Start) at c.recount-u.ensures in
+    let t = rw (marks-told _ c.requires.0.valid c.pattern_plot.ensures) at c.count_patterns-before.ensures in
+    let u = rw (held (goal.at.returns c).Start) at c.recount-after.ensures in
     cc (t.peaks_are, t.pits_are, t.saddles_are, u.peaks_are, u.pits_are, u.saddles_are)

@@ -8,59 +8,52 @@ use mir.Val.{to_z, of_z}
 use borrow.Author.Rules.{rules}
 use Rattle.surface.specs.Plot.{Plot, plot_of}
 use Rattle.surface.specs.Refusals.{trial_verdict}
-use Rattle.surface.specs.Calls.{plot_said}
+use Rattle.surface.specs.Calls.{plot_by}
 use Rattle.surface.specs.declared.Answer.{Answer}
 use Rattle.surface.proofs.General.ListOf.{length-part-replicate}
 use Rattle.surface.proofs.OfCalls.Verdicts.{code}
+use Rattle.surface.proofs.OfCalls.Outcomes.{refused-numbered, handed}
 use Rattle.surface.proofs.OfCalls.Accepted.{Served, serve}
 use Rattle.surface.proofs.OfCalls.TrialCall.{ForTrial, trial-valid, trial-refused, trial-served}
+use Rattle.trial.specs.Told.{tried_of}
 use Rattle.trial.proofs.trial.Goals as goal
-use Rattle.trial.proofs.trial.Goals.{After-grid_of-grid, After-trial_verdict-verdict, Start}
+use Rattle.trial.proofs.trial.Goals.{In_ok-grid, Start}
 
 -- the new height, as the code holds it
 held : (s : Start) → to_z w32 (of_z w32 s.args.height) ≡ s.args.height
 held s = search rules
 
--- the verdict on a plot
-abbrev verdict_on : After-trial_verdict-verdict → Plot → Answer
-verdict_on c pl = let a = c.args in trial_verdict pl a.post a.height
+module _ (c : In_ok-grid) where
+  -- the plot that the call goes on with, and what acceptance says of it
+  served : let a = c.args in Served (plot_by a.sheet.now a.rows a.columns a.heights.now) c.in_ok-grid.grid (λ pl. trial_verdict pl a.post a.height)
+  served = serve _ _ _ (rw (held (goal.at.In_ok-grid c).Start) at c.in_ok-grid.ensures.value) c.in_ok-grid.ensures.grid
 
-said : (c : After-trial_verdict-verdict) → let a = c.args in
-    c.trial_verdict-verdict.result ≡ verdict_on c (plot_said c.read_sheet-said.result a.rows a.columns a.heights.now)
-said c = rw (held (goal.at.After-trial_verdict-verdict c).Start) at c.trial_verdict-verdict.ensures
+  accepted : let a = c.args in ForTrial (plot_of c.in_ok-grid.grid a.heights.now) a.post a.height
+  accepted = trial-valid _ _ _ served.passed
 
--- the plot that the call goes on with, and what acceptance says of it
-served : (c : After-grid_of-grid) → let a = c.args in
-    Served c.read_sheet-said.result a.rows a.columns a.heights.now (verdict_on (goal.at.After-grid_of-grid c).After-trial_verdict-verdict) c.grid_of-grid.result
-served c = serve _ _ _ _ _ (λ e. (trial-valid _ _ _ e).sheet) (said (goal.at.After-grid_of-grid c).After-trial_verdict-verdict) c.if-code-ne0.false c.grid_of-grid.ensures
+  few : length c.args.heights.now ≤ 14400
+  few = let v = accepted.valid in omega (arith, v.size, v.sides.few)
 
-accepted : (c : After-grid_of-grid) → let a = c.args in ForTrial (plot_of c.grid_of-grid.result a.heights.now) a.post a.height
-accepted c = trial-valid _ _ _ (served c).passed
-
-few : (c : After-grid_of-grid) → length c.args.heights.now ≤ 14400
-few c = let v = (accepted c).valid in omega (arith, v.size, v.sides.few)
-
-pub returns-then-code-ne0 : goal.returns-then-code-ne0
-returns-then-code-ne0 c =
-    let after = (goal.at.returns-then-code-ne0 c).After-trial_verdict-verdict in
-    rw (← c.read_sheet-said.ensures)
-    (ap (λ (a : Answer). record { code = a.code; place = a.place; peaks = 0; pits = 0; saddles = 0; newPeaks = 0; newPits = 0; newSaddles = 0 }) (said after)
-    ∙ sym (trial-refused _ _ _ (λ z. c.if-code-ne0.true (code (said after) ∙ z))))
+pub returns-in_err-grid : goal.returns-in_err-grid
+returns-in_err-grid c =
+    let e = rw (held (goal.at.returns-in_err-grid c).Start) at c.in_err-grid.ensures.value in
+    ap tried_of (handed _ _ c.from_residual.ensures.1)
+    ∙ ap (λ (a : Answer). record { code = a.code; place = a.place; peaks = 0; pits = 0; saddles = 0; newPeaks = 0; newPits = 0; newSaddles = 0 }) e
+    ∙ sym (trial-refused _ _ _ (λ z. refused-numbered _ (code e ∙ z)))
 
 pub count_now_and_then-requires : goal.count_now_and_then-requires
 count_now_and_then-requires c =
-    let after = (goal.at.count_now_and_then-requires c).After-grid_of-grid in
-    let a = accepted after in
-    rw (held (goal.at.count_now_and_then-requires c).Start) (record { valid = a.valid; post = a.post_in }, a.in_range, length-part-replicate 14400 _ 0 (few after) ∙ a.valid.size)
+    let here = (goal.at.count_now_and_then-requires c).In_ok-grid in
+    let a = accepted here in
+    rw (held (goal.at.count_now_and_then-requires c).Start) (record { valid = a.valid; post = a.post_in }, a.in_range, length-part-replicate 14400 _ 0 (few here) ∙ a.valid.size)
 
 pub returns : goal.returns
 returns c =
-    let after = (goal.at.returns c).After-grid_of-grid in
-    rw (← c.read_sheet-said.ensures, (served after).same_plot)
-    ((rw (held (goal.at.returns c).Start) at c.count_now_and_then.ensures) ∙ sym (trial-served _ _ _ (served after).passed))
+    let s = served (goal.at.returns c).In_ok-grid in
+    rw s.same_plot ((rw (held (goal.at.returns c).Start) at c.count_now_and_then.ensures) ∙ sym (trial-served _ _ _ s.passed))
 
 pub slice_bounds-patterns-end : goal.slice_bounds-patterns-end
-slice_bounds-patterns-end c = few c
+slice_bounds-patterns-end c = few (goal.at.slice_bounds-patterns-end c).In_ok-grid
 
 pub slice_bounds-count_now_and_then-end : goal.slice_bounds-count_now_and_then-end
-slice_bounds-count_now_and_then-end c = sym (length-part-replicate 14400 _ 0 (few (goal.at.slice_bounds-count_now_and_then-end c).After-grid_of-grid))
+slice_bounds-count_now_and_then-end c = sym (length-part-replicate 14400 _ 0 (few (goal.at.slice_bounds-count_now_and_then-end c).In_ok-grid))

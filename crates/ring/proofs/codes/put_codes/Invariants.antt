@@ -10,6 +10,3 @@ use Rattle.ring.proofs.codes.put_codes.Given as goal
 abbrev pub invariant-loop-i : goal.invariant-loop-i
 invariant-loop-i l =
     (l.i ≤ 8) × (length l.list ≡ 8) × (l.list ≡ stores (λ i. get_or (codes_of (plot_of l.grid l.heights) l.p) i 0) 0 l.i l.initial.list)
-
-abbrev pub decreases-loop-i : goal.decreases-loop-i
-decreases-loop-i l = 8 - l.i
