@@ -1,20 +1,13 @@
 // The saddles of a plot as driven: rows in turn, odd ones from their last column.
 #![tactic(auto)]
 
-ghost use Rattle.std.specs.Prelude.{◌≡◌, cond, ◌+◌, ◌*◌, ◌≤◌, ◌<◌, length};
+ghost use Rattle.std.specs.Prelude.{◌≡◌, ◌+◌, ◌*◌, ◌≤◌, ◌<◌, length};
 ghost use Rattle.surface.specs.Lists.{one};
 ghost use Rattle.surface.specs.Plot.{Sides};
 ghost use Rattle.surface.specs.Patterns.{change_table};
 ghost use Rattle.driven_saddles.specs.Collected.{saddle_in, Collected};
 
 use surface::Grid;
-
-// x where b holds, else y.
-fn choose(b: bool, x: usize, y: usize) -> usize
-    ensures { result ≡ cond b x y }
-{
-    if b { x } else { y }
-}
 
 // 1 where post p is a saddle, else 0.
 fn saddle_at(patterns: &[u8], changes: &[u8], p: usize) -> usize
@@ -43,12 +36,11 @@ fn collect_row(
     let first = r * columns;
     let back = r % 2 == 1;
     let mut m = found;
-    let mut c = 0;
-    while c < columns {
-        let p = first + choose(back, columns - 1 - c, c);
+    for turn in 0..columns {
+        let column = if back { columns - 1 - turn } else { turn };
+        let p = first + column;
         list[m] = p as u16;
         m += saddle_at(patterns, changes, p);
-        c += 1;
     }
     m
 }
@@ -59,12 +51,9 @@ pub fn collect(grid: Grid, patterns: &[u8], changes: &[u8], list: &mut [u16]) ->
     requires patterns_len { (length patterns.now ≡ grid.rows * grid.columns) × (length list.old ≡ grid.rows * grid.columns) }
     ensures { Collected grid.columns (saddle_in patterns.now) (grid.rows * grid.columns) list.new result }
 {
-    let rows = grid.rows;
     let mut m = 0;
-    let mut r = 0;
-    while r < rows {
+    for r in 0..grid.rows {
         m = collect_row(grid, r, patterns, changes, list, m);
-        r += 1;
     }
     m
 }

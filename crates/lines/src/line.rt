@@ -85,12 +85,10 @@ fn draw_from(
         return refused(7, 0);
     }
     let ring = ring_at(heights, grid, p);
-    let start = line_start(heights, grid, spacings, up, p, ring, run);
-    if !start.found {
+    let Some(post) = line_start(heights, grid, spacings, up, p, ring, run) else {
         return refused(8, 0);
-    }
-    let first = start.post;
-    let from = Walk { post: first, up };
+    };
+    let from = Walk { post, up };
     if !has_room(heights, grid, spacings, from, line.len()) {
         return refused(9, 0);
     }

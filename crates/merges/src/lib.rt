@@ -10,7 +10,7 @@ ghost use Rattle.merges.specs.Merges.{Rising, SameEnds, End, Linked, MergedWith,
 
 use order::is_below;
 use paths::settle;
-use starts::{post_at, start_of};
+use starts::{first_start, post_at, start_of};
 use surface::Grid;
 
 // The end of the path from p; it becomes p's entry.
@@ -72,18 +72,15 @@ pub fn take_saddle(
     requires pattern_value { (pattern ≡ pattern_at (plot_of grid heights.now) p) × (1 ≤ length (upper_starts pattern)) }
     ensures { (end : ℕ) × Merged (plot_of grid heights.now) list.old list.new (start_posts (plot_of grid heights.now) p) end result }
 {
-    let first = post_at(steps, grid.columns, p, start_of(table, pattern, 0));
+    let first = post_at(steps, grid.columns, p, first_start(table, pattern));
     let end = end_of(heights, grid, list, first);
     let mut body = Body { end, splits: 0 };
-    let mut j = 1;
-    while j < 4 {
-        let place = start_of(table, pattern, j);
-        if place == 8 {
+    for j in 1..4 {
+        let Some(place) = start_of(table, pattern, j) else {
             break;
-        }
+        };
         let q = post_at(steps, grid.columns, p, place);
         body = merge(heights, grid, list, body, q);
-        j += 1;
     }
     body.splits
 }

@@ -25,14 +25,12 @@ fn fill_border(
     requires by_index { (i : ℕ) → i < n → is_border grid.rows grid.columns (from + i) ≡ true }
     ensures { NextsFilled (plot_of grid heights.now) spacings both from n downs.old ups.old downs.new ups.new }
 {
-    let mut i = 0;
-    while i < n {
+    for i in 0..n {
         let p = from + i;
         downs[p] = VIRTUAL_PIT as u16;
         if both {
             ups[p] = next_up_anywhere(heights, grid, spacings, p) as u16;
         }
-        i += 1;
     }
 }
 
@@ -56,8 +54,7 @@ fn fill_inside(
     requires by_index { (i : ℕ) → i < n → (is_border grid.rows grid.columns (from + i) ≡ false) × (odd ≡ is_odd (row grid.columns (from + i))) }
     ensures { NextsFilled (plot_of grid heights.now) spacings both from n downs.old ups.old downs.new ups.new }
 {
-    let mut i = 0;
-    while i < n {
+    for i in 0..n {
         let p = from + i;
         let down = next_inside(heights, grid, spacings, p, odd, even, highest, DOWN);
         if both {
@@ -65,7 +62,6 @@ fn fill_inside(
             ups[p] = up as u16;
         }
         downs[p] = down as u16;
-        i += 1;
     }
 }
 
@@ -164,10 +160,8 @@ pub fn fill_nexts(
     let columns = grid.columns;
     let last = grid.rows - 1;
     fill_border(heights, grid, spacings, both, 0, columns, downs, ups);
-    let mut r = 1;
-    while r < last {
+    for r in 1..last {
         fill_row(heights, grid, spacings, both, r, downs, ups);
-        r += 1;
     }
     fill_border(
         heights,

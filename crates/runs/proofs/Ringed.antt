@@ -4,15 +4,14 @@ use native.Mathlib.Omega.{arith}
 use mathlib.Core.Path.{◌≡◌, refl, sym, ◌∙◌, ap}
 use mathlib.Core.Bool.{Bool, true, false, cond, true≢false}
 use mathlib.Core.List.{List, [], ◌∷◌, ◌++◌, Memᴰ}
-use borrow.Author.Tests.{ltb-true, ltb-false, leb-true, lt-ltb, le-ltb, not-true}
+use borrow.Author.Tests.{ltb-true, ltb-false, leb-true, not-true}
 use lib.Dec.{ltb}
 use lib.ListN.{length, get_or, length-append}
 use Rattle.surface.specs.Lists.{any, all}
 use Rattle.surface.specs.Plot.{Plot, posts, Vertex, below, directed}
 use Rattle.surface.specs.Edges.{falls_in, ring_of}
 use Rattle.surface.specs.Marks.{mark_for, mark, mark_at}
-use Rattle.surface.specs.Lines.{Descent, runs_of, line_start, toward}
-use Rattle.surface.specs.declared.Spacings.{Spacings}
+use Rattle.surface.specs.Lines.{Descent, runs_of, line_start}
 use Rattle.surface.proofs.General.Bools.{either}
 use Rattle.surface.proofs.AnyOrder.Order.{directed-strict}
 use Rattle.surface.proofs.AnyOrder.RingEdges.{ring-other}
@@ -23,7 +22,7 @@ use Rattle.surface.proofs.OfPlots.HeightOrder.{below-strict}
 use Rattle.rings.specs.declared.ring.Ring.{Ring}
 use Rattle.rings.specs.Rings.{held}
 use Rattle.rings.proofs.Rings.{held-vertex}
-use Rattle.runs.specs.Runs.{Saddle, StartsAt, pick_from, Starts}
+use Rattle.runs.specs.Runs.{Saddle}
 use Rattle.runs.proofs.Running.{get_or-front, get_or-back}
 
 -- a saddle has neighbours below and above
@@ -84,26 +83,6 @@ module _ {pl : Plot} {p : ℕ} {r : Ring} (z : Saddle pl p r) where
       (λ e.
       let k = ltb-false j r.len e in
       rw (get_or-back (held r) (held r) j (omega (arith, long))) (member-vertex (j - length (held r)) (omega (arith, long))))
-
-  -- where a run starts tells where its line goes to
-  module _ (s : Spacings) (up : Bool) {run place : ℕ} (k : StartsAt (λ q. directed up (below pl) q p) (held r) run place) where
-    pub starts_none : r.len ≤ place → Starts (toward pl s up) p run (record { found = false; post = p })
-    starts_none h =
-        record {
-          found = rw (← z.holds.members) (sym (k.there ∙ le-ltb place _ (omega (arith, long))));
-          post = λ e. absurd (true≢false (sym e));
-        }
-
-    pub starts-run : place < r.len → (q : ℕ) → q ≡ pick_from (toward pl s up) p (held r) place
-        → Starts (toward pl s up) p run (record { found = true; post = q })
-    starts-run h q e =
-        record {
-          found = rw (← z.holds.members) (sym (k.there ∙ lt-ltb place _ (omega (arith, long))));
-          post =
-              λ _.
-              let this = sym (k.run (omega (arith, long))) in
-              e ∙ rw (← z.holds.members) (ap ((toward pl s up).pick p) this);
-        }
 
 -- where the line of a run goes to is a vertex
 pub start-vertex : {n : ℕ} {d : Descent} → Falling n d → {post run q : ℕ} → post < n → run < length (runs_of d post) → q ≡ line_start d post run → Vertex n q

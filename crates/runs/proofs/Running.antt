@@ -2,10 +2,10 @@
 use Prim.Native.Nat.{ℕ, zero, suc, ◌+◌, ◌-◌, ◌≤◌, ◌<◌}
 use native.Mathlib.Omega.{arith}
 use native.Mathlib.Numerals.{add-one}
-use mathlib.Core.Path.{◌≡◌, refl, sym, ◌∙◌, ap}
+use mathlib.Core.Path.{◌≡◌, refl, ◌∙◌, ap}
 use mathlib.Core.Bool.{Bool, true, false, not, ◌&&◌}
 use mathlib.Core.List.{List, [], ◌∷◌, ◌++◌}
-use borrow.Author.Tests.{eqb-true, eqb-false, lt-ltb, le-ltb}
+use borrow.Author.Tests.{eqb-true, eqb-false}
 use lib.Dec.{eqb}
 use lib.ListN.{length, get_or, drop, get_or-append}
 use lib.Seq.{drop-cons, drop-length, drop-append-le, get_or-append-add}
@@ -102,21 +102,18 @@ module _ (s : ℕ → Bool) where
         let c : runs_from s before (drop i ring) ring ≡ this ∷ later = cons ∙ rw t in
         let n = rw c at k.number in
         record {
-          there = lt-ltb j _ (omega arith) ∙ sym (lt-ltb i _ h);
-          passes = λ _. and_left here (not before) t;
-          run = λ _. k.same ∙ ap (λ (l : List (List ℕ)). get_or l left []) c ∙ ap (λ (m : ℕ). get_or (this ∷ later) m []) z;
+          there = omega arith;
+          place = h;
+          passes = and_left here (not before) t;
+          run = k.same ∙ ap (λ (l : List (List ℕ)). get_or l left []) c ∙ ap (λ (m : ℕ). get_or (this ∷ later) m []) z;
         }
 
-  pub seek-end : {ring : List ℕ} {j i : ℕ} {before : Bool} {left : ℕ} → i ≡ length ring → Seek ring j i before left → StartsAt s ring j i
+  pub seek-end : {ring : List ℕ} {j i : ℕ} {before : Bool} {left : ℕ} → i ≡ length ring → Seek ring j i before left → length (runs s ring) ≤ j
   unfolding runs_from
   seek-end {ring} {j} {i} h k =
       let d : drop i ring ≡ [] = rw h (drop-length ring) in
       let n = rw d at k.number in
-      record {
-        there = le-ltb j _ (omega arith) ∙ sym (le-ltb i _ (omega arith));
-        passes = λ m. absurd (omega arith);
-        run = λ m. absurd (omega arith);
-      }
+      omega arith
 
 -- the lowest of the members that pass, found one after the other
 module _ (lower : ℕ → ℕ → Bool) (s : ℕ → Bool) (l : List ℕ) where

@@ -6,12 +6,12 @@ use mathlib.Core.Path.{◌≡◌, refl, sym, ◌∙◌, ap}
 use mathlib.Core.Logic.{⊎_elim}
 use mathlib.Core.Bool.{Bool, true, false, cond, not, ◌&&◌}
 use mathlib.Core.List.{List, [], ◌∷◌, ◌++◌, flatten, append_assoc, append-nil}
-use borrow.Author.Tests.{eq-eqb, ne_eqb, ltb-true, ltb-false}
+use borrow.Author.Tests.{eq-eqb, ne_eqb}
 use lib.ListN.{length, get_or}
 use Rattle.surface.specs.Lists.{list_of, keep, all, take_while, last_or}
 use Rattle.surface.specs.Plot.{Plot, posts, virtual_pit, Vertex}
 use Rattle.surface.specs.Edges.{runs, runs_from}
-use Rattle.surface.specs.Lines.{Descent, is_end, next, walk, end, runs_of, line, toward}
+use Rattle.surface.specs.Lines.{Descent, is_end, next, walk, end, runs_of, line, line_start, toward}
 use Rattle.surface.specs.Lister.{decimal, text_line, end_name, line_text}
 use Rattle.surface.proofs.General.ListOf.{length-list_of, get_or-list_of}
 use Rattle.surface.proofs.AnyOrder.Grid.{not-pit}
@@ -19,8 +19,6 @@ use Rattle.surface.proofs.AnyOrder.Walks.{Falling, end-stop, pit-stop}
 use Rattle.surface.proofs.OfPlots.Instance.{toward-falling}
 use Rattle.surface.specs.declared.Spacings.{Spacings}
 use Rattle.rings.specs.declared.ring.Ring.{Ring}
-use Rattle.runs.specs.declared.Start.{Start}
-use Rattle.runs.specs.Runs.{Starts}
 use Rattle.runs.proofs.Ringed.{start-vertex}
 use Rattle.text.specs.Wrote.{line_room, Wrote}
 use Rattle.saddle_lines.specs.Lines.{end_from, run_lines, SaddleWith}
@@ -95,33 +93,26 @@ module _ {pl : Plot} {spacings : Spacings} {up : Bool} {p : ℕ} {ring : Ring} {
       (λ (k : v ≡ virtual_pit). sym (end-pit ends v k) ∙ rw k (sym (end-stop law (posts pl) virtual_pit (pit-stop law))))
       w
 
-  module _ {run : ℕ} {r : Start} (k : Starts d p run r) where
-    pub none : r.found ≡ false → length (runs_of d p) ≤ run
-    none e = ltb-false _ _ (sym k.found ∙ e)
+  module _ {run post : ℕ} (has : run < length (runs_of d p)) (goes : post ≡ line_start d p run) where
+    plain : Vertex (posts pl) post
+    plain = start-vertex law s.saddle.post.post has goes
 
-    module _ (e : r.found ≡ true) where
-      pub numbered : run < length (runs_of d p)
-      numbered = ltb-true _ _ (sym k.found ∙ e)
+    pub vertex : Vertex (length ends) post
+    vertex = rw (s.known, length-list_of) plain
 
-      plain : Vertex (posts pl) r.post
-      plain = start-vertex law s.saddle.post.post numbered (k.post e)
+    -- the line of the run ends where the walk does from what is picked of the run
+    line-end : last_or virtual_pit (line d (posts pl) p run) ≡ end_from ends post
+    unfolding last_or line
+    line-end = walk-last law p (posts pl) _ ∙ ap (end d (posts pl)) (sym goes) ∙ sym (end_known post plain)
 
-      pub vertex : Vertex (length ends) r.post
-      vertex = rw (s.known, length-list_of) plain
-
-      -- the line of the run ends where the walk does from what is picked of the run
-      line-end : last_or virtual_pit (line d (posts pl) p run) ≡ end_from ends r.post
-      unfolding last_or line
-      line-end = walk-last law p (posts pl) _ ∙ ap (end d (posts pl)) (sym (k.post e)) ∙ sym (end_known r.post plain)
-
-      pub line-more : {l l₁ l₂ : List ℕ} {at next last : ℕ} (letter end : ℕ) → end ≡ end_from ends r.post
-          → Wrote (line_room * run) l l₁ at (run_lines pl letter d p run) next
-          → Wrote line_room l₁ l₂ next (text_line letter (decimal p ∷ decimal run ∷ end_name end ∷ [])) last
-          → Wrote (line_room * (run + 1)) l l₂ at (run_lines pl letter d p (run + 1)) last
-      unfolding run_lines line_text
-      line-more letter end f w v =
-          let t : last_or virtual_pit (line d (posts pl) p run) ≡ end = line-end ∙ sym f in
-          rw (flatten-more (λ run. line_text letter p run (line d (posts pl) p run)) run, t) (within (omega arith) (more w v))
+    pub line-more : {l l₁ l₂ : List ℕ} {at next last : ℕ} (letter end : ℕ) → end ≡ end_from ends post
+        → Wrote (line_room * run) l l₁ at (run_lines pl letter d p run) next
+        → Wrote line_room l₁ l₂ next (text_line letter (decimal p ∷ decimal run ∷ end_name end ∷ [])) last
+        → Wrote (line_room * (run + 1)) l l₂ at (run_lines pl letter d p (run + 1)) last
+    unfolding run_lines line_text
+    line-more letter end f w v =
+        let t : last_or virtual_pit (line d (posts pl) p run) ≡ end = line-end ∙ sym f in
+        rw (flatten-more (λ run. line_text letter p run (line d (posts pl) p run)) run, t) (within (omega arith) (more w v))
 
 pub no_lines : (pl : Plot) (letter : ℕ) (d : Descent) (p : ℕ) (l : List ℕ) (at : ℕ) → Wrote 0 l l at (run_lines pl letter d p 0) at
 unfolding run_lines list_of flatten

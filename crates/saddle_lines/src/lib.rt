@@ -53,12 +53,8 @@ fn put_runs(
 {
     let mut next = at;
     let mut run = 0;
-    loop {
-        let start = line_start(heights, grid, spacings, up, p, ring, run);
-        if !start.found {
-            break;
-        }
-        let end = end_from(ends, start.post);
+    while let Some(post) = line_start(heights, grid, spacings, up, p, ring, run) {
+        let end = end_from(ends, post);
         next = put_line(out, next, letter, p as u32, run, end);
         run += 1;
     }
@@ -106,6 +102,7 @@ pub fn put_posts(
     let last = out.len() - POST_ROOM;
     let mut post = from;
     let mut bytes = 0;
+    // It ends by either of two tests, and `post` is told after it: a `for` is no plainer.
     while (post < posts) & (bytes <= last) {
         bytes = put_post(
             heights, grid, spacings, marks, dales, hills, post, out, bytes,

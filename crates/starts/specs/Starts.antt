@@ -1,5 +1,5 @@
 -- The posts at which the upper runs of a post start, by its pattern.
-use Rattle.std.specs.Prelude.{ℕ, ◌+◌, ◌-◌, ◌*◌, List, [], ◌∷◌, map, get_or}
+use Rattle.std.specs.Prelude.{ℕ, ◌+◌, ◌-◌, ◌*◌, ◌≤◌, ◌<◌, ◌≡◌, List, [], ◌∷◌, Option, MatchOption, map, length, get_or}
 use Rattle.surface.specs.Plot.{Plot}
 use Rattle.surface.specs.Patterns.{pattern_at, upper_starts}
 
@@ -22,3 +22,7 @@ start_posts pl p = map (post_at pl.columns p) (upper_starts (pattern_at pl p))
 -- by a pattern, the place where the first upper run starts, 8 where there is none
 abbrev pub first_start : ℕ → ℕ
 first_start pattern = get_or (upper_starts pattern) 0 8
+
+-- the place where upper run j of a pattern starts, if there is such a run
+abbrev pub StartOf : ℕ → ℕ → Option ℕ → Type 0
+StartOf pattern j r = MatchOption r (length (upper_starts pattern) ≤ j) (λ place. (j < length (upper_starts pattern)) × (place ≡ get_or (upper_starts pattern) j 8))

@@ -4,8 +4,8 @@
 ghost use Rattle.std.specs.Prelude.{◌≡◌, ℕ, ◌+◌, ◌≤◌, ◌<◌, length, get_or};
 ghost use Rattle.surface.specs.Lists.{list_of};
 ghost use Rattle.surface.specs.Plot.{max_side, max_posts};
-ghost use Rattle.surface.specs.Patterns.{upper_starts, start_table};
-ghost use Rattle.starts.specs.Starts.{strides, stride_to, post_at, first_start};
+ghost use Rattle.surface.specs.Patterns.{start_table};
+ghost use Rattle.starts.specs.Starts.{strides, stride_to, post_at, first_start, StartOf};
 
 // For each pattern four bytes: the places at which its upper runs start, in order, and 8 where there is no more. Four patterns in a row. A place counts where
 // its sign is false and the one before it, taken as a circle, is true; in the first pattern, where all are false, the one run starts at the first place.
@@ -82,12 +82,21 @@ pub fn start_table() -> [u8; 1024]
     STARTS
 }
 
-// The place where upper run j of a pattern starts, 8 where there is none.
-pub fn start_of(table: &[u8], pattern: u8, j: usize) -> usize
-    requires { (table.now ≡ start_table) × (j < 4) }
-    ensures { (result ≡ get_or (upper_starts pattern) j 8) × (result ≤ 8) }
+// The place where the first upper run of a pattern starts, 8, which stands for the post itself, where it has none.
+pub fn first_start(table: &[u8], pattern: u8) -> usize
+    requires { table.now ≡ start_table }
+    ensures { (result ≡ first_start pattern) × (result ≤ 8) }
 {
-    table[4 * pattern as usize + j] as usize
+    table[4 * pattern as usize] as usize
+}
+
+// The place where upper run j of a pattern starts, if there is such a run.
+pub fn start_of(table: &[u8], pattern: u8, j: usize) -> Option<usize>
+    requires { (table.now ≡ start_table) × (j < 4) }
+    ensures { StartOf pattern j result }
+{
+    let place = table[4 * pattern as usize + j] as usize;
+    if place < 8 { Some(place) } else { None }
 }
 
 // How far beyond its north west neighbour the neighbours of a post stand, and the post itself.
@@ -114,11 +123,8 @@ pub fn fill_leads(columns: usize, patterns: &[u8], table: &[u8], leads: &mut [u1
     ensures { leads.new ≡ list_of (λ p. post_at columns p (first_start (get_or patterns.now p 0))) (length patterns.now) }
 {
     let steps = step_list(columns);
-    let n = patterns.len();
-    let mut p = 0;
-    while p < n {
-        let place = start_of(table, patterns[p], 0);
-        leads[p] = post_at(&steps, columns, p, place) as u16;
-        p += 1;
+    for (p, lead) in leads.iter_mut().enumerate() {
+        let place = first_start(table, patterns[p]);
+        *lead = post_at(&steps, columns, p, place) as u16;
     }
 }

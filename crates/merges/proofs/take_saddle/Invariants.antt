@@ -1,5 +1,5 @@
 -- The loop's invariant: the bodies of the first j starts are one.
-use Prim.Native.Nat.{ℕ, ◌-◌, ◌≤◌}
+use Prim.Native.Nat.{ℕ, ◌≤◌}
 use lib.ListN.{length, get_or}
 use Rattle.surface.specs.Plot.{plot_of}
 use Rattle.surface.specs.Patterns.{upper_starts}
@@ -14,8 +14,5 @@ start_at columns pattern p j = post_at columns p (get_or (upper_starts pattern) 
 
 abbrev pub invariant-loop-j : goal.invariant-loop-j
 invariant-loop-j l =
-    (1 ≤ l.j) × (l.j ≤ length (upper_starts l.pattern))
+    (l.j ≤ length (upper_starts l.pattern))
     × Merged (plot_of l.grid l.heights) l.initial.list l.list (down_to (start_at l.grid.columns l.pattern l.p) l.j) l.body.end l.body.splits
-
-abbrev pub decreases-loop-j : goal.decreases-loop-j
-decreases-loop-j l = 4 - l.j

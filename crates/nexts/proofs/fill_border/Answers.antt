@@ -11,14 +11,14 @@ use Rattle.nexts.proofs.fill_border.Goals as goal
 use Rattle.nexts.proofs.fill_border.Goals.{then-both, else-both, At-loop-i, In-loop-i, Joined-both}
 
 lent : (l : At-loop-i) → ForNexts (plot_of l.args.grid l.args.heights.now) l.args.spacings l.args.both l.loop-i.downs l.loop-i.ups
-lent l = filled-lists l.loop-i.invariant.1 l.requires.for_nexts.0
+lent l = filled-lists l.loop-i.invariant l.requires.for_nexts.0
 
 -- a turn's post
 post : (c : In-loop-i) → PostOf (plot_of c.args.grid c.args.heights.now) (c.args.from + c.loop-i.i)
 post c = record { valid = (lent (goal.at.In-loop-i c).At-loop-i).valid; post = omega (arith, c.requires.for_nexts.1) }
 
 pub loop-i-init : goal.loop-i-init
-loop-i-init c = (omega arith, filled_none _ _ _ _ _ _)
+loop-i-init c = filled_none _ _ _ _ _ _
 
 pub overflow_add-p : goal.overflow_add-p
 overflow_add-p c = omega (arith, (post c).post, (post c).valid.sides)
@@ -56,14 +56,14 @@ turned : (c : Joined-both)
     → let a = c.args in
     NextsFilled (plot_of a.grid a.heights.now) a.spacings a.both a.from (c.loop-i.i + 1) a.downs.now a.ups.now (set c.loop-i.downs (a.from + c.loop-i.i) 65535) c.if-both.ups
 turned c =
-    let f = c.loop-i.invariant.1 in
+    let f = c.loop-i.invariant in
     let d = drained (goal.at.Joined-both c).In-loop-i in
     elim c.if-both.branch [ then-both w ↦ rw w.ups-is (filled-both f w.if-both.true _ _ d w.next_up_anywhere.ensures) | else-both w ↦ rw w.ups-is (filled-one f w.if-both.false _ d) ]
 
 pub loop-i-preserved : goal.loop-i-preserved
-loop-i-preserved c = (omega arith, turned c)
+loop-i-preserved c = turned c
 
 pub returns : goal.returns
 returns c =
     let e : c.loop-i.i ≡ c.args.n = omega arith in
-    rw e at c.loop-i.invariant.1
+    rw e at c.loop-i.invariant

@@ -12,7 +12,7 @@ use Rattle.nexts.proofs.fill_inside.Goals as goal
 use Rattle.nexts.proofs.fill_inside.Goals.{then-both, else-both, After-next_inside-down, At-loop-i, In-loop-i, Joined-both}
 
 lent : (l : At-loop-i) → ForNexts (plot_of l.args.grid l.args.heights.now) l.args.spacings l.args.both l.loop-i.downs l.loop-i.ups
-lent l = filled-lists l.loop-i.invariant.1 l.requires.for_nexts.0
+lent l = filled-lists l.loop-i.invariant l.requires.for_nexts.0
 
 -- a turn's post
 post : (c : In-loop-i) → PostOf (plot_of c.args.grid c.args.heights.now) (c.args.from + c.loop-i.i)
@@ -32,7 +32,7 @@ inside c =
     (post c, k.0, k.1, (lent (goal.at.In-loop-i c).At-loop-i).spaced, p.highest_value.0, p.highest_value.1)
 
 pub loop-i-init : goal.loop-i-init
-loop-i-init c = (omega arith, filled_none _ _ _ _ _ _)
+loop-i-init c = filled_none _ _ _ _ _ _
 
 pub overflow_add-p : goal.overflow_add-p
 overflow_add-p c = omega (arith, (post c).post, (post c).valid.sides)
@@ -75,14 +75,14 @@ turned : (c : Joined-both)
     → let a = c.args in
     NextsFilled (plot_of a.grid a.heights.now) a.spacings a.both a.from (c.loop-i.i + 1) a.downs.now a.ups.now (set c.loop-i.downs (a.from + c.loop-i.i) c.next_inside-down.result) c.if-both.ups
 turned c =
-    let f = c.loop-i.invariant.1 in
+    let f = c.loop-i.invariant in
     let d = c.next_inside-down.ensures in
     elim c.if-both.branch [ then-both w ↦ rw w.ups-is (filled-both f w.if-both.true _ _ d w.next_inside-up.ensures) | else-both w ↦ rw w.ups-is (filled-one f w.if-both.false _ d) ]
 
 pub loop-i-preserved : goal.loop-i-preserved
-loop-i-preserved c = (omega arith, turned c)
+loop-i-preserved c = turned c
 
 pub returns : goal.returns
 returns c =
     let e : c.loop-i.i ≡ c.args.n = omega arith in
-    rw e at c.loop-i.invariant.1
+    rw e at c.loop-i.invariant

@@ -13,7 +13,7 @@ use Rattle.nexts.proofs.fill_nexts.Goals.{After-fill_border-2, At-loop-r}
 lent : (l : At-loop-r)
     → let a = l.args in
     ForNexts (plot_of a.grid a.heights.now) a.spacings a.both l.loop-r.downs l.loop-r.ups
-lent l = filled-lists l.loop-r.invariant.2 (filled-lists l.fill_border.ensures l.requires)
+lent l = filled-lists l.loop-r.invariant (filled-lists l.fill_border.ensures l.requires)
 
 -- the rows before row r, from the first on
 rows-filled : (l : At-loop-r)
@@ -21,7 +21,7 @@ rows-filled : (l : At-loop-r)
     NextsFilled (plot_of a.grid a.heights.now) a.spacings a.both 0 (l.loop-r.r * a.grid.columns) a.downs.now a.ups.now l.loop-r.downs l.loop-r.ups
 rows-filled l =
     let k = l.args.grid.columns in
-    filled-join l.fill_border.ensures l.loop-r.invariant.2 _ (omega arith) (omega (arith, mul-le-mul_right k l.loop-r.invariant.0, one-mul k))
+    filled-join l.fill_border.ensures l.loop-r.invariant _ (omega arith) (omega (arith, mul-le-mul_right k l.loop-r.auto.r, one-mul k))
 
 pub fill_border-requires : goal.fill_border-requires
 fill_border-requires c =
@@ -39,22 +39,18 @@ pub loop-r-init : goal.loop-r-init
 loop-r-init c =
     let k = c.args.grid.columns in
     let e : 1 * k - k ≡ 0 = omega (arith, one-mul k) in
-    (omega arith, omega (arith, c.requires.valid.sides), rw e (filled_none _ _ _ _ _ _))
+    rw e (filled_none _ _ _ _ _ _)
 
 pub fill_row-requires : goal.fill_row-requires
 fill_row-requires c =
-    (lent (goal.at.fill_row-requires c).At-loop-r, omega (arith, c.loop-r.invariant.0), omega (arith, c.loop-r-test.true))
-
-pub overflow_add-r : goal.overflow_add-r
-overflow_add-r c =
-    omega (arith, c.loop-r-test.true, c.requires.valid.sides)
+    (lent (goal.at.fill_row-requires c).At-loop-r, omega (arith, c.loop-r.auto.r), omega (arith, c.loop-r-test.true))
 
 pub loop-r-preserved : goal.loop-r-preserved
 loop-r-preserved c =
     let k = c.args.grid.columns in
     let one = add-mul c.loop-r.r 1 k in
-    let m = mul-le-mul_right k c.loop-r.invariant.0 in
-    (omega arith, omega (arith, c.loop-r-test.true), filled-join c.loop-r.invariant.2 c.fill_row.ensures _ (omega (arith, m, one-mul k)) (omega (arith, one, m, one-mul k)))
+    let m = mul-le-mul_right k c.loop-r.auto.r in
+    filled-join c.loop-r.invariant c.fill_row.ensures _ (omega (arith, m, one-mul k)) (omega (arith, one, m, one-mul k))
 
 -- the bottom row
 bottom : (l : At-loop-r) → let g = l.args.grid in (g.rows - 1) * g.columns + g.columns ≤ g.rows * g.columns
@@ -74,7 +70,7 @@ filled : (c : After-fill_border-2)
     NextsFilled (plot_of a.grid a.heights.now) a.spacings a.both 0 (a.grid.rows * a.grid.columns) a.downs.now a.ups.now c.fill_border-2.new.downs c.fill_border-2.new.ups
 filled c =
     let k = c.args.grid.columns in
-    let e : c.loop-r.r ≡ c.args.grid.rows - 1 = omega (arith, c.loop-r-test.false, c.loop-r.invariant.1) in
+    let e : c.loop-r.r ≡ c.args.grid.rows - 1 = omega (arith, c.loop-r-test.false, c.loop-r.auto, c.requires.valid.sides) in
     let rows : c.args.grid.rows ≡ c.loop-r.r + 1 = omega (arith, c.requires.valid.sides) in
     filled-join (rows-filled (goal.at.After-fill_border-2 c).At-loop-r) c.fill_border-2.ensures _ (omega (arith, ap (λ (n : ℕ). n * k) e))
     (omega (arith, ap (λ (n : ℕ). n * k) rows, add-mul c.loop-r.r 1 k, one-mul k))

@@ -31,10 +31,7 @@ more : (c : Else-starts-left)
     let starts : Bool = low (get_or (held a.ring) c.loop-i.i 0) && not c.loop-i.before in
     Seek low (held a.ring) a.run (c.loop-i.i + 1) (low (get_or (held a.ring) c.loop-i.i 0)) (c.loop-i.left - bool_byte starts)
     × (bool_byte starts ≤ c.loop-i.left)
-more c = seek-more _ (inside (goal.at.Else-starts-left c).In-loop-i) c.loop-i.invariant.1 (rw (side (goal.at.Else-starts-left c).After-is_lower-here) at c.if-starts-left.false)
-
-pub overflow_sub-len : goal.overflow_sub-len
-overflow_sub-len c = omega (arith, some c.requires)
+more c = seek-more _ (inside (goal.at.Else-starts-left c).In-loop-i) c.loop-i.invariant (rw (side (goal.at.Else-starts-left c).After-is_lower-here) at c.if-starts-left.false)
 
 pub member_at-requires : goal.member_at-requires
 member_at-requires c = let h = c.requires.holds in (h.low, h.size, omega (arith, some c.requires))
@@ -44,20 +41,6 @@ is_lower-before-requires c =
     let z = c.requires in
     (z.post.valid, rw c.member_at.ensures (twice-vertex z (c.args.ring.len - 1) (omega (arith, some z))), inl z.post.post)
 
-pub loop-i-init : goal.loop-i-init
-loop-i-init c =
-    let z = c.requires in
-    let r = c.args.ring in
-    let e : get_or (held r ++ held r) (r.len - 1) 0 ≡ get_or (held r) (length (held r) - 1) 0 =
-    get_or-front (held r) (held r) (r.len - 1) (omega (arith, long z, some z)) ∙ rw (long z) in (
-      omega arith,
-      rw (c.is_lower-before.ensures, c.member_at.ensures, e) (seek-none _ (held r) c.args.run (omega (arith, long z, some z)) (mixed z c.args.up)),
-    )
-
-pub member_at-requires-in-loop-i : goal.member_at-requires-in-loop-i
-member_at-requires-in-loop-i c =
-    let h = c.requires.holds in (h.low, h.size, omega arith)
-
 pub is_lower-here-requires : goal.is_lower-here-requires
 is_lower-here-requires c =
     let z = c.requires in
@@ -65,18 +48,21 @@ is_lower-here-requires c =
 
 pub returns-then-starts-left : goal.returns-then-starts-left
 returns-then-starts-left c =
-    seek_found _ (inside (goal.at.returns-then-starts-left c).In-loop-i) c.loop-i.invariant.1 (rw (side (goal.at.returns-then-starts-left c).After-is_lower-here) at c.if-starts-left.true)
+    seek_found _ (inside (goal.at.returns-then-starts-left c).In-loop-i) c.loop-i.invariant (rw (side (goal.at.returns-then-starts-left c).After-is_lower-here) at c.if-starts-left.true)
 
-pub overflow_sub-left : goal.overflow_sub-left
-overflow_sub-left c = rw (side (goal.at.overflow_sub-left c).After-is_lower-here) (more c).1
+pub overflow_sub-ring : goal.overflow_sub-ring
+overflow_sub-ring c = omega (arith, some c.requires)
 
-pub overflow_add-i : goal.overflow_add-i
-overflow_add-i c =
-    omega (arith, c.requires.holds.low)
+pub loop-i-init : goal.loop-i-init
+loop-i-init c =
+    let z = c.requires in
+    let r = c.args.ring in
+    let e : get_or (held r ++ held r) (r.len - 1) 0 ≡ get_or (held r) (length (held r) - 1) 0 =
+    get_or-front (held r) (held r) (r.len - 1) (omega (arith, long z, some z)) ∙ rw (long z) in
+    rw (c.is_lower-before.ensures, c.member_at.ensures, e) (seek-none _ (held r) c.args.run (omega (arith, long z, some z)) (mixed z c.args.up))
 
 pub loop-i-preserved : goal.loop-i-preserved
-loop-i-preserved c = (omega arith, rw (side (goal.at.loop-i-preserved c).After-is_lower-here) (more c).0)
+loop-i-preserved c = rw (side (goal.at.loop-i-preserved c).After-is_lower-here) (more c).0
 
 pub returns : goal.returns
-returns c =
-    seek-end _ (omega (arith, long c.requires)) c.loop-i.invariant.1
+returns c = seek-end _ (omega (arith, long c.requires)) c.loop-i.invariant

@@ -30,15 +30,6 @@ low : {b : Bool} (c : After-is_lower) → c.is_lower.result ≡ b
     directed a.up (below (plot_of a.grid a.heights.now)) q a.p ≡ b
 low c e = rw (← c.member_at-q.ensures) (sym c.is_lower.ensures ∙ e)
 
-pub overflow_add-twice : goal.overflow_add-twice
-overflow_add-twice c = omega (arith, c.requires.saddle.holds.low)
-
-pub member_at-best-requires : goal.member_at-best-requires
-member_at-best-requires c = let h = c.requires.saddle.holds in (h.low, h.size, omega (arith, c.requires.place))
-
-pub overflow_add-j : goal.overflow_add-j
-overflow_add-j c = omega (arith, c.requires.saddle.holds.low, c.requires.place)
-
 pub loop-j-init : goal.loop-j-init
 loop-j-init c =
     let z = c.requires.saddle in
@@ -47,15 +38,9 @@ loop-j-init c =
     let h : i < length (r ++ r) = omega (arith, twice-long z, c.requires.place) in
     let e : get_or (r ++ r) i 0 ≡ get_or r i 0 = get_or-front r r i (omega (arith, long z, c.requires.place)) in
     rw c.member_at-best.ensures (
-      omega arith,
-      omega (arith, c.requires.place),
       low_first _ _ (r ++ r) i h (rw e c.requires.lower) ∙ sym (steepest-first _ _ _ c.args.p _),
       twice-vertex z i (omega (arith, c.requires.place)),
     )
-
-pub member_at-q-requires : goal.member_at-q-requires
-member_at-q-requires c =
-    let h = c.requires.saddle.holds in (h.low, h.size, c.loop-j-test.true)
 
 pub is_lower-requires : goal.is_lower-requires
 is_lower-requires c =
@@ -64,15 +49,11 @@ is_lower-requires c =
 pub returns-then-not-is_lower : goal.returns-then-not-is_lower
 returns-then-not-is_lower c =
     low-none _ _ _ c.loop-j.best c.loop-j.j (while-stop _ _ c.loop-j.j (inside (goal.at.returns-then-not-is_lower c).In-loop-j) (low c.before c.if-not-is_lower.true))
-    ∙ c.loop-j.invariant.2
+    ∙ c.loop-j.invariant.0
 
 pub first_of-best-requires : goal.first_of-best-requires
 first_of-best-requires c =
-    (c.requires.saddle.post, c.loop-j.invariant.3, member (goal.at.first_of-best-requires c).After-member_at-q, c.requires.spaced)
-
-pub overflow_add-j-in-loop-j : goal.overflow_add-j-in-loop-j
-overflow_add-j-in-loop-j c =
-    omega (arith, c.requires.saddle.holds.low)
+    (c.requires.saddle.post, c.loop-j.invariant.1, member (goal.at.first_of-best-requires c).After-member_at-q, c.requires.spaced)
 
 pub loop-j-preserved : goal.loop-j-preserved
 loop-j-preserved c =
@@ -80,14 +61,12 @@ loop-j-preserved c =
     let a = c.args in
     let pl = plot_of a.grid a.heights.now in
     rw c.first_of-best.ensures (
-      omega arith,
-      omega arith,
       rw c.member_at-q.ensures
-          (low-more _ _ _ l.best l.j (inside (goal.at.loop-j-preserved c).In-loop-j) (low c.before.before c.if-not-is_lower.false) ∙ l.invariant.2),
-      chosen-vertex (ahead pl a.spacings (directed a.up (below pl)) a.p c.member_at-q.result l.best) l.invariant.3 (member (goal.at.loop-j-preserved c).After-member_at-q),
+          (low-more _ _ _ l.best l.j (inside (goal.at.loop-j-preserved c).In-loop-j) (low c.before.before c.if-not-is_lower.false) ∙ l.invariant.0),
+      chosen-vertex (ahead pl a.spacings (directed a.up (below pl)) a.p c.member_at-q.result l.best) l.invariant.1 (member (goal.at.loop-j-preserved c).After-member_at-q),
     )
 
-pub returns : goal.returns
-returns c =
+pub returns-after-loop-j : goal.returns-after-loop-j
+returns-after-loop-j c =
     let l = c.loop-j in
-    low-none _ _ _ l.best l.j (while-end _ _ l.j (omega (arith, twice-long c.requires.saddle))) ∙ l.invariant.2
+    low-none _ _ _ l.best l.j (while-end _ _ l.j (omega (arith, twice-long c.requires.saddle, c.requires.place))) ∙ l.invariant.0

@@ -1,6 +1,5 @@
 -- The loop's invariant: the first of what was found so far and of the run's members from place j on is the run's steepest.
 use mathlib.Core.Path.{◌≡◌}
-use Prim.Native.Nat.{◌-◌, ◌≤◌, ◌<◌}
 use Rattle.surface.specs.Plot.{plot_of, posts, Vertex, below, directed}
 use Rattle.surface.specs.Edges.{lowest_or}
 use Rattle.surface.specs.Lines.{toward}
@@ -12,11 +11,6 @@ use Rattle.runs.proofs.steepest_from.Given as goal
 abbrev pub invariant-loop-j : goal.invariant-loop-j
 invariant-loop-j l =
     let lower = directed l.up (below (plot_of l.grid l.heights)) in
-    (l.i < l.j)
-    × (l.j ≤ l.twice)
-    × (lowest_or (ahead (plot_of l.grid l.heights) l.spacings lower l.p) l.best (run_from (λ q. lower q l.p) (held l.ring) l.j)
+    (lowest_or (ahead (plot_of l.grid l.heights) l.spacings lower l.p) l.best (run_from (λ q. lower q l.p) (held l.ring) l.j)
     ≡ pick_from (toward (plot_of l.grid l.heights) l.spacings l.up) l.p (held l.ring) l.i)
     × Vertex (posts (plot_of l.grid l.heights)) l.best
-
-abbrev pub decreases-loop-j : goal.decreases-loop-j
-decreases-loop-j l = l.twice - l.j

@@ -32,9 +32,6 @@ returns-then-marks-p-lt-SADDLE c =
     no-saddle (plot_of a.grid a.heights.now) a.spacings a.p a.out.now a.at
     (lt-leb 3 (mark_at (plot_of a.grid a.heights.now) a.p) (omega (arith, marked (goal.at.returns-then-marks-p-lt-SADDLE c).Start, c.if-marks-p-lt-SADDLE.true)))
 
-pub ring_at-ring-requires : goal.ring_at-ring-requires
-ring_at-ring-requires c = record { valid = c.requires.0.valid; post = c.requires.1 }
-
 pub put_runs-end-requires : goal.put_runs-end-requires
 put_runs-end-requires c =
     (downward c.requires.0 (saddle (goal.at.put_runs-end-requires c).After-ring_at-ring), omega (arith, c.requires.2))

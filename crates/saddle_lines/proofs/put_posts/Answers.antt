@@ -27,31 +27,10 @@ room : (c : In-loop-post) → c.loop-post.bytes ≤ end-byte (goal.at.In-loop-po
 room c =
     leb-true c.loop-post.bytes (end-byte (goal.at.In-loop-post c).At-loop-post) (and_right (ltb c.loop-post.post (end-post (goal.at.In-loop-post c).At-loop-post)) (leb c.loop-post.bytes (end-byte (goal.at.In-loop-post c).At-loop-post)) c.loop-post-test.true)
 
-pub overflow_mul-posts : goal.overflow_mul-posts
-overflow_mul-posts c =
-    omega (arith, c.requires.0.valid.sides)
-
-pub overflow_sub-last : goal.overflow_sub-last
-overflow_sub-last c =
-    omega (arith, c.requires.2)
-
 pub loop-post-init : goal.loop-post-init
 loop-post-init c =
     let a = c.args in
     (refl, omega (arith, c.requires.2), c.requires.1, going-none (plot_of a.grid a.heights.now) a.spacings a.from a.out.now _)
-
-pub put_post-bytes-requires : goal.put_post-bytes-requires
-put_post-bytes-requires c =
-    let turn = (goal.at.put_post-bytes-requires c).In-loop-post in
-    let v = c.loop-post.invariant in (c.requires.0, left turn, omega (arith, room turn, v.1, v.3.size))
-
-pub overflow_add-post : goal.overflow_add-post
-overflow_add-post c =
-    omega (arith, left (goal.at.overflow_add-post c).In-loop-post, c.requires.0.valid.sides)
-
-pub loop-post-smaller : goal.loop-post-smaller
-loop-post-smaller c =
-    omega (arith, left (goal.at.loop-post-smaller c).In-loop-post, c.loop-post.invariant.0)
 
 pub loop-post-preserved : goal.loop-post-preserved
 loop-post-preserved c =

@@ -1,5 +1,4 @@
 -- By the row that refuses the line, or by its entries.
-use borrow.Author.Tests.{not-true, not-false}
 use native.Mathlib.Omega.{arith}
 use mathlib.Core.Path.{◌≡◌, sym, ◌∙◌}
 use Prim.Native.Nat.{◌<◌}
@@ -17,7 +16,7 @@ use Rattle.lines.specs.Walks.{WalkOf, path}
 use Rattle.lines.proofs.Walking.{path-low, start-short}
 use Rattle.runs.proofs.Ringed.{start-vertex}
 use Rattle.lines.proofs.line.draw_from.Goals as goal
-use Rattle.lines.proofs.line.draw_from.Goals.{Else-mark_at-lt-SADDLE, Else-not-has_room, Else-not-start, Start}
+use Rattle.lines.proofs.line.draw_from.Goals.{Else-mark_at-lt-SADDLE, Else-not-has_room, In-Some, Start}
 
 abbrev plotted : Start → Plot
 plotted s = plot_of s.args.grid s.args.heights.now
@@ -28,33 +27,30 @@ post s = next-valid (plotted s) _ _ s.requires
 saddle : (c : Else-mark_at-lt-SADDLE) → is_saddle (mark_at (plotted (goal.at.Else-mark_at-lt-SADDLE c).Start) c.args.p) ≡ true
 saddle c = le-leb 3 (mark_at (plotted (goal.at.Else-mark_at-lt-SADDLE c).Start) c.args.p) (omega (arith, c.mark_at.ensures, c.if-mark_at-lt-SADDLE.false))
 
-abbrev descent : Else-not-start → Descent
-descent c = toward (plotted (goal.at.Else-not-start c).Start) c.args.spacings c.args.up
+abbrev descent : In-Some → Descent
+descent c = toward (plotted (goal.at.In-Some c).Start) c.args.spacings c.args.up
 
-found : (c : Else-not-start) → c.line_start-start.result.found ≡ true
-found c = not-false _ c.if-not-start.false
+has : (c : In-Some) → let a = c.args in a.run < length (runs_of (descent c) a.p)
+has c = c.in-Some.ensures.0
 
-has : (c : Else-not-start) → let a = c.args in a.run < length (runs_of (descent c) a.p)
-has c = ltb-true _ _ (sym c.line_start-start.ensures.found ∙ found c)
-
-goes : (c : Else-not-start) → let a = c.args in c.line_start-start.result.post ≡ line_start (descent c) a.p a.run
-goes c = c.line_start-start.ensures.post (found c)
+goes : (c : In-Some) → let a = c.args in c.in-Some.post ≡ line_start (descent c) a.p a.run
+goes c = c.in-Some.ensures.1
 
 -- the walk from where its line goes to
-abbrev walking : Else-not-start → Walk
-walking c = record { post = c.line_start-start.result.post; up = c.args.up }
+abbrev walking : In-Some → Walk
+walking c = record { post = c.in-Some.post; up = c.args.up }
 
-law : (c : Else-not-start) → Falling (posts (plotted (goal.at.Else-not-start c).Start)) (descent c)
-law c = toward-falling (plotted (goal.at.Else-not-start c).Start) (post (goal.at.Else-not-start c).Start).post_of.valid.sides c.args.spacings c.args.up
+law : (c : In-Some) → Falling (posts (plotted (goal.at.In-Some c).Start)) (descent c)
+law c = toward-falling (plotted (goal.at.In-Some c).Start) (post (goal.at.In-Some c).Start).post_of.valid.sides c.args.spacings c.args.up
 
-stands : (c : Else-not-start) → WalkOf (plotted (goal.at.Else-not-start c).Start) c.args.spacings (walking c)
+stands : (c : In-Some) → WalkOf (plotted (goal.at.In-Some c).Start) c.args.spacings (walking c)
 stands c =
-    let p = post (goal.at.Else-not-start c).Start in
+    let p = post (goal.at.In-Some c).Start in
     record { valid = p.post_of.valid; spaced = p.spaced; vertex = start-vertex (law c) p.post_of.post (has c) (goes c) }
 
 -- the list has room
 room : (c : Else-not-has_room)
-    → length (path (plotted (goal.at.Else-not-has_room c).Start) c.args.spacings (walking (goal.at.Else-not-has_room c).Else-not-start)) < length c.args.line.now
+    → length (path (plotted (goal.at.Else-not-has_room c).Start) c.args.spacings (walking (goal.at.Else-not-has_room c).In-Some)) < length c.args.line.now
 room c = ltb-true _ _ (sym c.has_room.ensures ∙ c.if-not-has_room.false)
 
 pub mark_at-requires : goal.mark_at-requires
@@ -70,25 +66,22 @@ returns-then-mark_at-lt-SADDLE c =
 pub ring_at-ring-requires : goal.ring_at-ring-requires
 ring_at-ring-requires c = (post (goal.at.ring_at-ring-requires c).Start).post_of
 
-pub line_start-start-requires : goal.line_start-start-requires
-line_start-start-requires c =
-    let p = post (goal.at.line_start-start-requires c).Start in
-    (record { post = p.post_of; saddle = saddle (goal.at.line_start-start-requires c).Else-mark_at-lt-SADDLE; holds = c.ring_at-ring.ensures }, p.spaced)
+pub line_start-requires : goal.line_start-requires
+line_start-requires c =
+    let p = post (goal.at.line_start-requires c).Start in
+    (record { post = p.post_of; saddle = saddle (goal.at.line_start-requires c).Else-mark_at-lt-SADDLE; holds = c.ring_at-ring.ensures }, p.spaced)
 
-pub returns-then-not-start : goal.returns-then-not-start
-returns-then-not-start c =
-    let k =
-    no_run _ _ _ _ _ _ c.requires (saddle (goal.at.returns-then-not-start c).Else-mark_at-lt-SADDLE)
-    (ltb-false _ _ (sym c.line_start-start.ensures.found ∙ not-true _ c.if-not-start.true))
-    in
-    rw c.refused-then-not-start.ensures (record { value = k.0; line_after = k.1 })
+pub returns-in_default : goal.returns-in_default
+returns-in_default c =
+    let k = no_run _ _ _ _ _ _ c.requires (saddle (goal.at.returns-in_default c).Else-mark_at-lt-SADDLE) c.in_default.ensures in
+    rw c.refused-in_default.ensures (record { value = k.0; line_after = k.1 })
 
 pub has_room-requires : goal.has_room-requires
 has_room-requires c = (stands c, start-short (law c) (post (goal.at.has_room-requires c).Start).post_of.post (has c) (goes c))
 
 pub returns-then-not-has_room : goal.returns-then-not-has_room
 returns-then-not-has_room c =
-    let branch = (goal.at.returns-then-not-has_room c).Else-not-start in
+    let branch = (goal.at.returns-then-not-has_room c).In-Some in
     let k =
     too_long _ _ _ _ _ _ c.requires (saddle (goal.at.returns-then-not-has_room c).Else-mark_at-lt-SADDLE) (has branch)
     _ (goes branch) (ltb-false _ _ (sym c.has_room.ensures ∙ c.if-not-has_room.true))
@@ -97,14 +90,14 @@ returns-then-not-has_room c =
 
 pub write_entries-count-requires : goal.write_entries-count-requires
 write_entries-count-requires c =
-    record { walk = stands (goal.at.write_entries-count-requires c).Else-not-start; post = (post (goal.at.write_entries-count-requires c).Start).post_of.post; room = room (goal.at.write_entries-count-requires c).Else-not-has_room }
+    record { walk = stands (goal.at.write_entries-count-requires c).In-Some; post = (post (goal.at.write_entries-count-requires c).Start).post_of.post; room = room (goal.at.write_entries-count-requires c).Else-not-has_room }
 
 pub overflow_cast-result : goal.overflow_cast-result
-overflow_cast-result c = omega (arith, c.write_entries-count.ensures.value, path-low (stands (goal.at.overflow_cast-result c).Else-not-start))
+overflow_cast-result c = omega (arith, c.write_entries-count.ensures.value, path-low (stands (goal.at.overflow_cast-result c).In-Some))
 
 pub returns : goal.returns
 returns c =
-    let branch = (goal.at.returns c).Else-not-start in
+    let branch = (goal.at.returns c).In-Some in
     let k =
     drawn _ _ _ _ _ _ c.requires (saddle (goal.at.returns c).Else-mark_at-lt-SADDLE) (has branch)
     _ (goes branch) (room (goal.at.returns c).Else-not-has_room)
