@@ -11,4 +11,5 @@ pub mod FirstNot
 pub mod Stores
 pub mod Order
 pub mod Lex
+pub mod Slices
 pub mod Slopes
