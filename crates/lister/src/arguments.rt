@@ -1,6 +1,7 @@
 // The program's arguments. It takes none, or one that asks for its version.
-use crate::failures::tell;
+use crate::failures::Failure;
 use std::env::{Env, FillError};
+use std::io;
 use surface::{VERSION_MAJOR, VERSION_MINOR, VERSION_PATCH};
 
 // The bytes of --version, and one more: an argument that is longer shows.
@@ -25,16 +26,15 @@ fn asks_version(rt: &HostRuntime) -> bool {
     }
 }
 
-// Prints the version, and says whether all of it was written.
-fn print_version(rt: &HostRuntime) -> bool {
-    println!(rt; "{VERSION_MAJOR}.{VERSION_MINOR}.{VERSION_PATCH}").is_ok()
+// Prints the version.
+fn print_version(rt: &HostRuntime) -> io::Result<()> {
+    println!(rt; "{VERSION_MAJOR}.{VERSION_MINOR}.{VERSION_PATCH}")
 }
 
-// What is done where there are arguments: the version is printed, or it is told how the program is used. Says whether all that was to be printed was written.
-pub(crate) fn answer_arguments(rt: &HostRuntime) -> bool {
+// What is done where there are arguments: the version is printed, or it is told how the program is used.
+pub(crate) fn answer_arguments(rt: &HostRuntime) -> Result<(), Failure> {
     if asks_version(rt) {
-        return print_version(rt);
+        return print_version(rt).map_err(|_| Failure::Output);
     }
-    tell(rt, b"usage: lister [--version] <plot.svy\n");
-    true
+    Err(Failure::Usage)
 }

@@ -7,7 +7,7 @@ mod input;
 mod output;
 
 use arguments::{answer_arguments, has_arguments};
-use failures::tell;
+use failures::{Failure, tell};
 use input::{read_input, read_sheet};
 use output::print_file;
 
@@ -17,32 +17,22 @@ const SHEET_ROOM: usize = 43;
 // The longest survey file, and one byte more.
 const INPUT_ROOM: usize = 57612;
 
-// Lists the plot of standard input. Says whether all that was to be printed was written.
-fn list_plot(rt: &HostRuntime) -> bool {
+// Lists the plot of standard input.
+fn list_plot(rt: &HostRuntime) -> Result<(), Failure> {
     let mut sheet = [0u8; SHEET_ROOM];
-    let settings = read_sheet(rt, &mut sheet);
-    if settings.failed {
-        tell(rt, b"lister: plot.set cannot be read\n");
-        return true;
-    }
+    let sheet_bytes = read_sheet(rt, &mut sheet).map_err(|_| Failure::Sheet)?;
     let mut file = [0u8; INPUT_ROOM];
-    let input = read_input(&mut rt.stdin(), &mut file);
-    if input.failed {
-        tell(rt, b"lister: standard input cannot be read\n");
-        return true;
-    }
-    let sheet_bytes = settings.bytes;
-    let bytes = input.bytes;
-    print_file(rt, &sheet[..sheet_bytes], &file[..bytes])
+    let bytes = read_input(&mut rt.stdin(), &mut file).map_err(|_| Failure::Input)?;
+    print_file(rt, &sheet[..sheet_bytes], &file[..bytes]).map_err(|_| Failure::Output)
 }
 
 fn main(rt: HostRuntime) {
-    let written = if has_arguments(&rt) {
+    let done = if has_arguments(&rt) {
         answer_arguments(&rt)
     } else {
         list_plot(&rt)
     };
-    if !written {
-        tell(&rt, b"lister: standard output cannot be written\n");
+    if let Err(failure) = done {
+        tell(&rt, failure);
     }
 }

@@ -1,11 +1,12 @@
-// Printing a listing. Each function says whether all of it was written.
+// Printing a listing.
 ghost use Rattle.std.specs.Prelude.{◌≤◌, length};
 ghost use Rattle.surface.specs.Plot.{plot_of};
 ghost use Rattle.saddle_lines.specs.Lines.{post_room, Known};
 ghost use Rattle.listing.specs.First.{Lent};
 
-use listing::put_first;
+use listing::{Read, put_first};
 use saddle_lines::put_posts;
+use std::io;
 use surface::{Grid, MAX_POSTS, Spacings};
 use survey_file::posts_in;
 
@@ -22,7 +23,7 @@ fn print_posts(
     dales: &[u16],
     hills: &[u16],
     buffer: &mut [u8],
-) -> bool
+) -> io::Result<()>
     requires { Known (plot_of grid heights.now) spacings marks.now dales.now hills.now × (post_room ≤ length buffer.old) }
 {
     let posts = grid.rows * grid.columns;
@@ -30,12 +31,10 @@ fn print_posts(
     while post < posts {
         let filled = put_posts(heights, grid, spacings, marks, dales, hills, post, buffer);
         let bytes = filled.bytes;
-        if rt.write_all(&buffer[..bytes]).is_err() {
-            return false;
-        }
+        rt.write_all(&buffer[..bytes])?;
         post = filled.post;
     }
-    true
+    Ok(())
 }
 
 // Prints the listing of a sheet and a file, with lists lent for its plot.
@@ -48,22 +47,22 @@ fn print_listing(
     dales: &mut [u16],
     hills: &mut [u16],
     buffer: &mut [u8],
-) -> bool
+) -> io::Result<()>
     requires { Lent file.now heights.old marks.old dales.old hills.old × (post_room ≤ length buffer.old) }
 {
     let begun = put_first(sheet, file, heights, marks, dales, hills, buffer);
     let bytes = begun.bytes;
-    let grid = begun.grid;
-    let spacings = begun.spacings;
-    let written = rt.write_all(&buffer[..bytes]).is_ok();
-    if !written | (grid.rows == 0) {
-        return written;
+    rt.write_all(&buffer[..bytes])?;
+    match begun.plot {
+        Some(Read { grid, spacings }) => {
+            print_posts(rt, heights, grid, spacings, marks, dales, hills, buffer)
+        }
+        None => Ok(()),
     }
-    print_posts(rt, heights, grid, spacings, marks, dales, hills, buffer)
 }
 
 // Prints the listing of a sheet and a file. Its plot may be as large as any.
-pub(crate) fn print_file(rt: &impl Print, sheet: &[u8], file: &[u8]) -> bool {
+pub(crate) fn print_file(rt: &impl Print, sheet: &[u8], file: &[u8]) -> io::Result<()> {
     let mut heights = [0i32; MAX_POSTS];
     let mut marks = [0u8; MAX_POSTS];
     let mut dales = [0u16; MAX_POSTS];

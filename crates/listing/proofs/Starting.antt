@@ -1,11 +1,11 @@
 -- The start of a listing: what reading, surveying and finding the dales and hills make of a file.
 use Prim.Native.Nat.{ℕ, ◌≤◌}
-use native.Mathlib.Omega.{arith}
 use mathlib.Core.Path.{◌≡◌, refl, sym, ◌∙◌, ap}
 use mathlib.Core.Bool.{Bool, ◌&&◌}
 use mathlib.Core.List.{List, [], ◌∷◌, ◌++◌}
 use borrow.Author.Tests.{ne_eqb}
 use lib.Dec.{eqb}
+use Rattle.std.proofs.Common.{Some}
 use lib.IntN.{ℤ, pos}
 use lib.ListN.{length, replicate, length-replicate}
 use Rattle.surface.specs.Plot.{Plot, ruled, posts, is_side, Valid}
@@ -112,7 +112,7 @@ sheet-passes sheet file said i e = rw (← i) (rw e)
 pub begins-refused : {whole buffer : List ℕ} {r : Begun} (hs : List ℤ) (marks dales hills : List ℕ) (text : List ℕ) → text ≡ whole → Refuses text buffer r
     → Begins whole hs marks dales hills buffer r
 begins-refused hs marks dales hills text e f =
-    record { room = f.room; refused = λ _. f.bytes ∙ e; text = λ z. absurd (z f.rows); known = λ z. absurd (z f.rows) }
+    record { room = f.room; rest = rw f.refused (f.bytes ∙ e) }
 
 -- the outcome of reading, refused and accepted
 module _ (sheet file : List ℕ) (hs : List ℤ) (h : length hs ≡ plot_posts file) (a : Size) (is_answer : a ≡ read_answer file hs) where
@@ -130,7 +130,7 @@ module _ (sheet file : List ℕ) (hs : List ℤ) (h : length hs ≡ plot_posts f
       → Lent file hs marks dales hills
       → line_room ≤ length l
       → Wrote line_room l l₁ 0 (text_line 78 (decimal a.rows ∷ decimal a.columns ∷ decimal counts.peaks ∷ decimal counts.pits ∷ decimal counts.saddles ∷ [])) bytes
-      → Begins (file_listing sheet file) after marks' dales' hills' l₁ (record { grid = record { rows = a.rows; columns = a.columns; highest = highest }; spacings = spacings a.east a.south; bytes = bytes })
+      → Begins (file_listing sheet file) after marks' dales' hills' l₁ (record { bytes = bytes; plot = Some (record { grid = record { rows = a.rows; columns = a.columns; highest = highest }; spacings = spacings a.east a.south }) })
   begins-accepted highest means after marks dales hills marks' dales' hills' l l₁ counts bytes e ea ec em ed eh r k w =
       let c : (read_answer file hs).code ≡ 0 = rw is_answer at e in
       let plotted = means a.rows a.columns after in
@@ -139,7 +139,8 @@ module _ (sheet file : List ℕ) (hs : List ℤ) (h : length hs ≡ plot_posts f
       rw (em, ed, eh, plotted, ea, is_answer)
       (record {
         room = f.2;
-        refused = λ z. absurd (omega (arith, z, (valid file hs h sheet highest means c).sides.tall));
-        text = λ _. rw (f.0 ∙ head file hs h sheet highest means c marks (r.marks_size ∙ size)) (left file hs h sheet highest means c);
-        known = λ _. known file hs h sheet highest means c marks dales hills (r.marks_size ∙ size) (r.dales_size ∙ size) (r.hills_size ∙ size);
+        rest = record {
+          text = rw (f.0 ∙ head file hs h sheet highest means c marks (r.marks_size ∙ size)) (left file hs h sheet highest means c);
+          known = known file hs h sheet highest means c marks dales hills (r.marks_size ∙ size) (r.dales_size ∙ size) (r.hills_size ∙ size);
+        };
       })

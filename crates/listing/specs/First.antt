@@ -1,9 +1,10 @@
 -- The start of a listing, after which only the lines of the posts are left.
-use Rattle.std.specs.Prelude.{ℕ, ◌≤◌, ◌≡◌, List, ◌++◌, ℤ, length, take}
+use Rattle.std.specs.Prelude.{ℕ, ◌≤◌, ◌≡◌, List, ◌++◌, ℤ, length, take, None, MatchOption}
 use Rattle.surface.specs.Plot.{plot_of, posts}
 use Rattle.survey_file.specs.Layout.{plot_posts}
 use Rattle.saddle_lines.specs.Lines.{lines_from, Known}
 use Rattle.listing.specs.declared.Begun.{Begun}
+use Rattle.listing.specs.declared.Read.{Read}
 
 -- lists lent for a file, as long as its plot has posts
 pub record Lent (file : List ℕ) (heights : List ℤ) (marks dales hills : List ℕ) : Type 0 where
@@ -12,16 +13,18 @@ pub record Lent (file : List ℕ) (heights : List ℤ) (marks dales hills : List
   pub dales_size : length dales ≡ plot_posts file
   pub hills_size : length hills ≡ plot_posts file
 
--- the first bytes are this text, and there are no rows
+-- the first bytes are this text, and there is no plot
 pub record Refuses (text buffer : List ℕ) (r : Begun) : Type 0 where
   pub room : r.bytes ≤ length buffer
   pub bytes : take r.bytes buffer ≡ text
-  pub rows : r.grid.rows ≡ 0
+  pub refused : r.plot ≡ None
 
--- where there are no rows, the first bytes are the whole listing; else the lines of all posts are what is left of it, and marks, dales and hills are
--- known
+-- the lines of all posts of a plot are what is left of the listing after its first bytes, and marks, dales and hills are known
+pub record Goes (whole : List ℕ) (hs : List ℤ) (marks dales hills begun : List ℕ) (plot : Read) : Type 0 where
+  pub text : begun ++ lines_from (plot_of plot.grid hs) plot.spacings 0 (posts (plot_of plot.grid hs)) ≡ whole
+  pub known : Known (plot_of plot.grid hs) plot.spacings marks dales hills
+
+-- where there is no plot, the first bytes are the whole listing; else it goes on from them
 pub record Begins (whole : List ℕ) (hs : List ℤ) (marks dales hills buffer : List ℕ) (r : Begun) : Type 0 where
   pub room : r.bytes ≤ length buffer
-  pub refused : r.grid.rows ≡ 0 → take r.bytes buffer ≡ whole
-  pub text : (r.grid.rows ≡ 0 → ⊥) → take r.bytes buffer ++ lines_from (plot_of r.grid hs) r.spacings 0 (posts (plot_of r.grid hs)) ≡ whole
-  pub known : (r.grid.rows ≡ 0 → ⊥) → Known (plot_of r.grid hs) r.spacings marks dales hills
+  pub rest : MatchOption r.plot (take r.bytes buffer ≡ whole) (λ plot. Goes whole hs marks dales hills (take r.bytes buffer) plot)

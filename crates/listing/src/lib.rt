@@ -15,12 +15,18 @@ use survey::survey;
 use survey_file::read_survey;
 use text::{put_head, put_refused};
 
-// The plot and its spacings, all 0 where the sheet or the file was refused, and how many bytes are written.
+// The plot that was read: its grid and its spacings.
 #[derive(Clone, Copy)]
-pub struct Begun {
+pub struct Read {
     pub grid: Grid,
     pub spacings: Spacings,
+}
+
+// How many bytes are written, and the plot, none where the sheet or the file was refused.
+#[derive(Clone, Copy)]
+pub struct Begun {
     pub bytes: usize,
+    pub plot: Option<Read>,
 }
 
 // Writes the E line of a refusal.
@@ -29,13 +35,8 @@ fn put_refusal(code: u32, place: u32, out: &mut [u8]) -> Begun
     ensures { Refuses (refused_text code place) out.new result }
 {
     Begun {
-        grid: Grid {
-            rows: 0,
-            columns: 0,
-            highest: false,
-        },
-        spacings: Spacings { east: 0, south: 0 },
         bytes: put_refused(out, 0, code, place),
+        plot: None,
     }
 }
 
@@ -64,10 +65,13 @@ fn put_file(
     let south = size.south;
     let sums = survey(sheet, rows, columns, heights, marks);
     dales_and_hills(sheet, rows, columns, east, south, heights, dales, hills);
-    Begun {
+    let plot = Read {
         grid: grid_of(said, rows, columns),
         spacings: Spacings { east, south },
+    };
+    Begun {
         bytes: put_head(out, 0, rows, columns, sums.peaks, sums.pits, sums.saddles),
+        plot: Some(plot),
     }
 }
 

@@ -1,6 +1,6 @@
 // The entries of a settings sheet, which end where it does: at most two can be allowed, the rule and then the name.
-ghost use Rattle.std.specs.Prelude.{◌≡◌, ◌<◌, length, drop};
-ghost use Rattle.surface.specs.Lists.{all};
+ghost use Rattle.std.specs.Prelude.{◌≡◌, ◌<◌, ◌&&◌, true, length};
+ghost use Rattle.std.specs.List.{fold};
 ghost use Rattle.surface.specs.Settings.{is_printable, are_entries};
 ghost use Rattle.surface.specs.Refused.{rule_number, sheet_of};
 ghost use Rattle.settings.specs.Walk.{header_size, entries_from, Whole, said_in, said_with};
@@ -21,17 +21,11 @@ fn is_printable(byte: u8) -> bool
     (32 <= byte) & (byte <= 126)
 }
 
-// Whether a name may have every byte from `at` on: a pass with no branch, so that the compiler makes vector code of it.
-fn are_printable(sheet: &[u8], at: usize) -> bool
-    ensures { result ≡ all is_printable (drop at sheet.now) }
+// Whether a name may have all these bytes: a pass with no branch, so that the compiler makes vector code of it.
+fn are_printable(bytes: &[u8]) -> bool
+    ensures { result ≡ fold (λ ok byte. ok && is_printable byte) true bytes.now }
 {
-    let mut ok = true;
-    let mut i = at;
-    while i < sheet.len() {
-        ok = ok & is_printable(sheet[i]);
-        i += 1;
-    }
-    ok
+    bytes.iter().fold(true, |ok, byte| ok & is_printable(*byte))
 }
 
 // Whether the entries from `at` on are a name and no more, whose bytes then go to the end.
@@ -42,7 +36,7 @@ fn is_name(sheet: &[u8], at: usize) -> bool
     let size = byte_at(sheet, at + 1) as usize;
     let sized = (1 <= size) & (size <= NAME_LENGTH);
     let last = at + 2 + size == sheet.len();
-    (byte_at(sheet, at) == NAME) & sized & last & are_printable(sheet, at + 2)
+    (byte_at(sheet, at) == NAME) & sized & last & are_printable(&sheet[at + 2..])
 }
 
 // What a sheet says that has this rule and the entries from `at` on.

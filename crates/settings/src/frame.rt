@@ -14,10 +14,7 @@ pub(crate) const HEADER: usize = 5;
 pub(crate) fn byte_at(sheet: &[u8], i: usize) -> u8
     ensures { result ≡ get_or sheet.now i 0 }
 {
-    if i < sheet.len() {
-        return sheet[i];
-    }
-    0
+    sheet.get(i).copied().unwrap_or(0)
 }
 
 // Whether the entries end exactly at the sheet's end.

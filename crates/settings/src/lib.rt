@@ -4,8 +4,8 @@
 mod entries;
 mod frame;
 
-ghost use Rattle.std.specs.Prelude.{◌≡◌, ◌+◌, ◌-◌, ◌≤◌, min, length, get_or, Ok};
-ghost use Rattle.surface.specs.Lists.{list_of, stores};
+ghost use Rattle.std.specs.Prelude.{◌≡◌, ◌+◌, ◌≤◌, length, get_or, Ok};
+ghost use Rattle.surface.specs.Lists.{list_of};
 ghost use Rattle.surface.specs.Settings.{name_length};
 ghost use Rattle.surface.specs.Calls.{sheet_says, grid_said, settings_answer, settings_name};
 ghost use Rattle.surface.specs.Refused.{sheet_of};
@@ -49,48 +49,14 @@ pub fn grid_of(said: Settings, rows: u32, columns: u32) -> Grid
     }
 }
 
-// Copies n bytes of a sheet from `at` on to the front of a list.
-fn copy_bytes(sheet: &[u8], at: usize, n: usize, list: &mut [u8])
-    requires { (at + n ≤ length sheet.now) × (n ≤ length list.old) }
-    ensures { list.new ≡ stores (λ i. get_or sheet.now (at + i) 0) 0 n list.old }
-{
-    let mut i = 0;
-    while i < n {
-        list[i] = sheet[at + i];
-        i += 1;
-    }
-}
-
-// Puts zeros from place n on.
-fn clear_from(list: &mut [u8], n: usize)
-    requires { n ≤ length list.old }
-    ensures { list.new ≡ stores (λ _. 0) n (length list.old - n) list.old }
-{
-    let mut i = n;
-    while i < list.len() {
-        list[i] = 0;
-        i += 1;
-    }
-}
-
-// How many of these bytes the list takes. A name never has more; `put_name` need not know that.
-fn at_most(bytes: usize) -> usize
-    ensures { result ≡ min bytes name_length }
-{
-    if bytes < NAME_LENGTH {
-        return bytes;
-    }
-    NAME_LENGTH
-}
-
-// Writes the bytes of a sheet from `at` on, and zeros after them.
+// Writes the bytes of a sheet from `at` on, as many as the list takes, and zeros after them. A name never has more; this need not know that.
 fn put_name(sheet: &[u8], at: usize, name: &mut [u8])
     requires { (at ≤ length sheet.now) × (length name.old ≡ name_length) }
     ensures { name.new ≡ list_of (λ i. get_or sheet.now (at + i) 0) name_length }
 {
-    let n = at_most(sheet.len() - at);
-    copy_bytes(sheet, at, n, name);
-    clear_from(name, n);
+    let n = (sheet.len() - at).min(NAME_LENGTH);
+    name[..n].copy_from_slice(&sheet[at..at + n]);
+    name[n..].fill(0);
 }
 
 // The call: gives the rule and the name's length, and writes the name, with which a sheet ends. Refused: the list stays as it was.

@@ -28,14 +28,13 @@ pub(crate) fn read_verdict(file: &[u8], heights: &[i32]) -> Answer
     if heights.len() != posts {
         return Answer { code: 3, place: 0 };
     }
-    let post = first_out(file, before, posts);
-    if post < posts {
-        return Answer {
+    match first_out(file, before, posts) {
+        Some(post) => Answer {
             code: 4,
             place: post as u32,
-        };
+        },
+        None => Answer { code: 0, place: 0 },
     }
-    Answer { code: 0, place: 0 }
 }
 
 // Fills the list with the heights that the file holds.
@@ -45,9 +44,7 @@ pub(crate) fn read_heights(file: &[u8], heights: &mut [i32])
     ensures { heights.new ≡ heights_in file.now (length heights.old) }
 {
     let header = header_size(file);
-    let mut i = 0;
-    while i < heights.len() {
-        heights[i] = round(tenths_at(file, header + 4 * i));
-        i += 1;
+    for (i, height) in heights.iter_mut().enumerate() {
+        *height = round(tenths_at(file, header + 4 * i));
     }
 }

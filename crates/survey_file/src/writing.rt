@@ -53,9 +53,7 @@ pub(crate) fn write_heights(heights: &[i32], file: &mut [u8])
     requires heights_value_2 { all is_height heights.now ≡ true }
     ensures { file.new ≡ sets file.old (header_for written) (filed_heights heights.now) }
 {
-    let mut i = 0;
-    while i < heights.len() {
-        put_word(file, SECOND_HEADER + 4 * i, filed(heights[i]));
-        i += 1;
+    for (i, height) in heights.iter().enumerate() {
+        put_word(file, SECOND_HEADER + 4 * i, filed(*height));
     }
 }

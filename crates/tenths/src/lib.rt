@@ -1,7 +1,7 @@
 // Filed heights, in tenths of a millimetre: read, rounded to whole ones, and written.
 #![tactic(auto)]
 
-ghost use Rattle.std.specs.Prelude.{◌≡◌, true, ◌+◌, ◌*◌, ◌≤◌, pos, ◌*ℤ◌, length};
+ghost use Rattle.std.specs.Prelude.{◌≡◌, true, MatchOption, ◌+◌, ◌*◌, ◌<◌, ◌≤◌, pos, ◌*ℤ◌, length};
 ghost use Rattle.surface.specs.Lists.{first_not};
 ghost use Rattle.surface.specs.Plot.{is_height};
 ghost use Rattle.surface.specs.SurveyFile.{version_in, header_for, is_tenths, tenths_of, rounded};
@@ -55,19 +55,12 @@ pub fn tenths_at(file: &[u8], at: usize) -> i32
     as_signed(word_at(file, at))
 }
 
-// The first of n posts whose filed height is out of range, n where none is; `header` is how many bytes stand before the heights.
-pub fn first_out(file: &[u8], header: usize, n: usize) -> usize
+// The first of n posts whose filed height is out of range; `header` is how many bytes stand before the heights.
+pub fn first_out(file: &[u8], header: usize, n: usize) -> Option<usize>
     requires { (header ≡ header_for (version_in file.now)) × (header + 4 * n ≤ length file.now) }
-    ensures { result ≡ first_not is_tenths (tenths_of file.now n) }
+    ensures { let first = first_not is_tenths (tenths_of file.now n) in MatchOption result (first ≡ n) (λ i. (first ≡ i) × (i < n)) }
 {
-    let mut i = 0;
-    while i < n {
-        if !is_tenths(tenths_at(file, header + 4 * i)) {
-            return i;
-        }
-        i += 1;
-    }
-    i
+    (0..n).position(|i| !is_tenths(tenths_at(file, header + 4 * i)))
 }
 
 // A height in range as it is filed: ten times as many tenths, as 32 bits.

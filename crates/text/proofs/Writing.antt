@@ -1,16 +1,17 @@
 -- Text that is written piece by piece, and the digits of a number.
 use Prim.Native.Nat.{ℕ, zero, suc, ◌+◌, ◌-◌, ◌/◌, ◌%◌, ◌≤◌, ◌<◌}
+use native.Mathlib.Numerals.{add-one}
 use native.Mathlib.Omega.{arith}
-use mathlib.Core.Path.{◌≡◌, refl, ◌∙◌, ap}
+use mathlib.Core.Path.{◌≡◌, refl, sym, ◌∙◌, ap}
 use mathlib.Core.Bool.{cond}
-use mathlib.Core.List.{List, [], ◌∷◌, ◌++◌}
+use mathlib.Core.List.{List, [], ◌∷◌, ◌++◌, map, flatten, append-nil, append_assoc}
 use borrow.Author.Tests.{lt-ltb, le-ltb, eq-eqb, ne_eqb}
 use lib.Dec.{ltb}
-use lib.ListN.{length, set, take, drop, length-append}
-use lib.Seq.{sets, sets-eq, length-sets, take_at, drop_at}
+use lib.ListN.{length, get_or, set, take, drop, length-append}
+use lib.Seq.{sets, sets-eq, length-sets, take-suc, take_at, drop_at}
 use Rattle.surface.specs.Plot.{virtual_pit}
-use Rattle.surface.specs.Lister.{digits, decimal, end_name}
-use Rattle.text.specs.Wrote.{Wrote}
+use Rattle.surface.specs.Lister.{digits, decimal, end_name, fields, text_line}
+use Rattle.text.specs.Wrote.{Wrote, begun_line}
 
 -- one text after the other
 sets-append : (l : List ℕ) (at : ℕ) (x y : List ℕ) → sets (sets l at x) (at + length x) y ≡ sets l at (x ++ y)
@@ -56,6 +57,34 @@ module _ (k n : ℕ) {l l₁ : List ℕ} {at : ℕ} where
       → Wrote 1 l₁ l₂ last ((48 + n % 10) ∷ []) next
       → Wrote k l l₂ at (digits k n) next
   more-digits h s p q = rw (digits_step k n h, le-ltb n 10 s) (within (omega arith) (more p q))
+
+-- numbers as fields, one more, and all that a line has
+fields_next : (n : ℕ) (ns : List ℕ) → flatten (map (λ n. 32 ∷ decimal n) (ns ++ n ∷ [])) ≡ flatten (map (λ n. 32 ∷ decimal n) ns) ++ 32 ∷ decimal n
+unfolding flatten
+fields_next n [] = append-nil (32 ∷ decimal n)
+fields_next n (m ∷ ns) =
+    ap (λ (l : List ℕ). 32 ∷ decimal m ++ l) (fields_next n ns) ∙ sym (append_assoc (32 ∷ decimal m) (flatten (map (λ n. 32 ∷ decimal n) ns)) (32 ∷ decimal n))
+
+pub begun-more : (letter i : ℕ) (ns : List ℕ) → i < length ns → begun_line letter (take i ns) ++ 32 ∷ decimal (get_or ns i 0) ≡ begun_line letter (take (i + 1) ns)
+begun-more letter i ns h =
+    let one : take (i + 1) ns ≡ take i ns ++ get_or ns i 0 ∷ [] = rw add-one (take-suc ns i 0 h) in
+    ap (λ (l : List ℕ). letter ∷ l) (sym (fields_next (get_or ns i 0) (take i ns))) ∙ ap (begun_line letter) (sym one)
+
+pub line-goes : (letter : ℕ) (ns : List ℕ) (l : List (List ℕ)) → begun_line letter ns ++ fields l ≡ text_line letter (map decimal ns ++ l)
+unfolding text_line fields flatten
+line-goes letter ns l = ap (λ (t : List ℕ). letter ∷ t) (goes ns)
+  where
+    goes : (ns : List ℕ) → flatten (map (λ n. 32 ∷ decimal n) ns) ++ fields l ≡ fields (map decimal ns ++ l)
+    goes [] = refl
+    goes (n ∷ ns) = append_assoc (32 ∷ decimal n) (flatten (map (λ n. 32 ∷ decimal n) ns)) (fields l) ∙ ap (λ (t : List ℕ). 32 ∷ decimal n ++ t) (goes ns)
+
+pub line-ends : (letter : ℕ) (ns : List ℕ) → begun_line letter ns ++ 10 ∷ [] ≡ text_line letter (map decimal ns)
+unfolding fields
+line-ends letter ns = line-goes letter ns [] ∙ ap (text_line letter) (append-nil (map decimal ns))
+
+pub line-named : (letter m n : ℕ) (end : List ℕ) → begun_line letter (m ∷ n ∷ []) ++ (32 ∷ end ++ 10 ∷ []) ≡ text_line letter (decimal m ∷ decimal n ∷ end ∷ [])
+unfolding fields
+line-named letter m n end = line-goes letter (m ∷ n ∷ []) (end ∷ [])
 
 -- the name of an end
 pub pit-named : (v : ℕ) → v ≡ 65535 → end_name v ≡ 86 ∷ []

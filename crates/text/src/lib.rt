@@ -1,9 +1,9 @@
 // The lines of the lister, one at a time. Each function writes at a place of a lent list, and gives the place after what it wrote.
 #![tactic(auto)]
 
-ghost use Rattle.std.specs.Prelude.{[], ◌∷◌, ◌+◌, ◌≤◌, ◌<◌, length};
+ghost use Rattle.std.specs.Prelude.{[], ◌∷◌, ◌+◌, ◌*◌, ◌≤◌, ◌<◌, length, map};
 ghost use Rattle.surface.specs.Lister.{digits, decimal, text_line, end_name, refused_text};
-ghost use Rattle.text.specs.Wrote.{line_room, Wrote};
+ghost use Rattle.text.specs.Wrote.{line_room, Wrote, begun_line};
 
 use surface::VIRTUAL_PIT;
 
@@ -15,7 +15,8 @@ fn put_byte(buffer: &mut [u8], at: usize, byte: u8) -> usize
     at + 1
 }
 
-// The last `more` digits of a number, without leading zeros. A call for each digit, so that the first is written first.
+// The last `more` digits of a number, without leading zeros. A call for each digit, so that the first is written first. By hand: the library's `write!` says
+// what it wrote only where it returns Ok, and no contract says that it does.
 fn put_digits(buffer: &mut [u8], at: usize, more: usize, n: u32) -> usize
     requires { at + more ≤ length buffer.old }
     ensures { Wrote more buffer.old buffer.new at (digits more n) result }
@@ -60,6 +61,27 @@ fn put_end(buffer: &mut [u8], at: usize, end: u32) -> usize
     put_field(buffer, at, end)
 }
 
+// A letter, and numbers as the fields after it.
+fn put_fields(buffer: &mut [u8], at: usize, letter: u8, numbers: &[u32]) -> usize
+    requires { (length numbers.now ≤ 5) × (at + line_room ≤ length buffer.old) }
+    ensures { Wrote (1 + 11 * length numbers.now) buffer.old buffer.new at (begun_line letter numbers.now) result }
+{
+    let mut next = put_byte(buffer, at, letter);
+    for number in numbers {
+        next = put_field(buffer, next, *number);
+    }
+    next
+}
+
+// A line of a letter and numbers.
+fn put_numbers(buffer: &mut [u8], at: usize, letter: u8, numbers: &[u32]) -> usize
+    requires { (length numbers.now ≤ 5) × (at + line_room ≤ length buffer.old) }
+    ensures { Wrote line_room buffer.old buffer.new at (text_line letter (map decimal numbers.now)) result }
+{
+    let last = put_fields(buffer, at, letter, numbers);
+    put_byte(buffer, last, b'\n')
+}
+
 // N, rows, columns, peaks, pits, saddles.
 pub fn put_head(
     buffer: &mut [u8],
@@ -73,13 +95,7 @@ pub fn put_head(
     requires { at + line_room ≤ length buffer.old }
     ensures { Wrote line_room buffer.old buffer.new at (text_line 78 (decimal rows ∷ decimal columns ∷ decimal peaks ∷ decimal pits ∷ decimal saddles ∷ [])) result }
 {
-    let first = put_byte(buffer, at, b'N');
-    let second = put_field(buffer, first, rows);
-    let third = put_field(buffer, second, columns);
-    let fourth = put_field(buffer, third, peaks);
-    let fifth = put_field(buffer, fourth, pits);
-    let last = put_field(buffer, fifth, saddles);
-    put_byte(buffer, last, b'\n')
+    put_numbers(buffer, at, b'N', &[rows, columns, peaks, pits, saddles])
 }
 
 // A water line, letter T, or a crest line, letter R: its saddle, run and end.
@@ -87,10 +103,8 @@ pub fn put_line(buffer: &mut [u8], at: usize, letter: u8, saddle: u32, run: u32,
     requires { at + line_room ≤ length buffer.old }
     ensures { Wrote line_room buffer.old buffer.new at (text_line letter (decimal saddle ∷ decimal run ∷ end_name end ∷ [])) result }
 {
-    let first = put_byte(buffer, at, letter);
-    let second = put_field(buffer, first, saddle);
-    let third = put_field(buffer, second, run);
-    let last = put_end(buffer, third, end);
+    let next = put_fields(buffer, at, letter, &[saddle, run]);
+    let last = put_end(buffer, next, end);
     put_byte(buffer, last, b'\n')
 }
 
@@ -99,8 +113,5 @@ pub fn put_refused(buffer: &mut [u8], at: usize, code: u32, place: u32) -> usize
     requires { at + line_room ≤ length buffer.old }
     ensures { Wrote line_room buffer.old buffer.new at (refused_text code place) result }
 {
-    let first = put_byte(buffer, at, b'E');
-    let second = put_field(buffer, first, code);
-    let last = put_field(buffer, second, place);
-    put_byte(buffer, last, b'\n')
+    put_numbers(buffer, at, b'E', &[code, place])
 }

@@ -1,2 +1,3 @@
--- Laws on plain numbers, for the proofs of this crate.
+-- Laws on plain lists and numbers, for the proofs of this crate.
 mod Bits
+mod Parts

@@ -6,4 +6,4 @@ use Rattle.listing.proofs.put_refusal.Goals as goal
 pub returns : goal.returns
 returns c =
     let f = front c.args.out.now _ _ _ c.requires c.put_refused.ensures in
-    record { room = f.2; bytes = f.0; rows = refl }
+    record { room = f.2; bytes = f.0; refused = refl }

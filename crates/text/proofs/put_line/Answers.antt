@@ -1,15 +1,10 @@
--- The pieces, one after the other, are the line.
-use native.Mathlib.Omega.{arith}
-use Rattle.surface.specs.Lister.{text_line, fields}
-use Rattle.text.proofs.Writing.{more, within}
+-- The numbers, the end, and the end of the line.
+use Rattle.std.proofs.Common.{arith}
+use Rattle.surface.specs.Lister.{end_name}
+use Rattle.text.proofs.Writing.{more, within, line-named}
 use Rattle.text.proofs.put_line.Goals as goal
 
 pub returns : goal.returns
-unfolding text_line fields
 returns c =
-    within (omega arith)
-    (more c.put_byte-first.ensures
-    (more c.put_field-second.ensures
-    (more c.put_field-third.ensures
-    (more c.put_end-last.ensures
-    c.put_byte.ensures))))
+    rw (← line-named c.args.letter c.args.saddle c.args.run (end_name c.args.end))
+    (within (omega arith) (more c.put_fields-next.ensures (more c.put_end-last.ensures c.put_byte.ensures)))

@@ -1,14 +1,6 @@
--- The pieces, one after the other, are the line.
-use native.Mathlib.Omega.{arith}
-use Rattle.surface.specs.Lister.{refused_text, text_line, fields}
-use Rattle.text.proofs.Writing.{more, within}
+use Rattle.surface.specs.Lister.{refused_text}
 use Rattle.text.proofs.put_refused.Goals as goal
 
 pub returns : goal.returns
-unfolding refused_text text_line fields
-returns c =
-    within (omega arith)
-    (more c.put_byte-first.ensures
-    (more c.put_field-second.ensures
-    (more c.put_field-last.ensures
-    c.put_byte.ensures)))
+unfolding refused_text
+returns c = c.put_numbers.ensures

@@ -1,8 +1,7 @@
 -- The loop's invariant: the first i heights are the file's, the others are as they were.
-use Prim.Native.Nat.{ℕ, ◌-◌, ◌≤◌}
+use Prim.Native.Nat.{ℕ}
 use mathlib.Core.List.{List}
 use lib.IntN.{ℤ}
-use lib.ListN.{length}
 use Rattle.surface.specs.SurveyFile.{version_in, rounded}
 use Rattle.surface.specs.Words.{word_at, signed}
 use Rattle.surface.proofs.General.ListOf.{Filled}
@@ -14,7 +13,4 @@ abbrev pub height : List ℕ → ℕ → ℤ
 height file i = rounded (signed (word_at file (height_at (version_in file) i)))
 
 abbrev pub invariant-loop-i : goal.invariant-loop-i
-invariant-loop-i l = (l.i ≤ length l.initial.heights) × Filled (height l.file) l.initial.heights l.i l.heights
-
-abbrev pub decreases-loop-i : goal.decreases-loop-i
-decreases-loop-i l = length l.initial.heights - l.i
+invariant-loop-i l = Filled (height l.file) l.initial.heights l.i l.heights

@@ -19,7 +19,7 @@ use Rattle.surface.proofs.OfCalls.Verdicts.{code, passed, row-holds, row-passed,
 use Rattle.survey_file.specs.Layout.{least_size, header_rows}
 use Rattle.survey_file.proofs.Posts.{plot-posts}
 use Rattle.survey_file.proofs.reading.read_verdict.Goals as goal
-use Rattle.survey_file.proofs.reading.read_verdict.Goals.{After-first_out-post, After-posts_in-posts, After-word_at-stated, Else-header-ne0, Else-heights-posts, Else-stated-file}
+use Rattle.survey_file.proofs.reading.read_verdict.Goals.{After-first_out, After-posts_in-posts, After-word_at-stated, Else-header-ne0, Else-heights-posts, Else-stated-file}
 
 -- the rows that come last
 abbrev rows : List ℕ → List ℤ → List Row
@@ -72,15 +72,12 @@ passed2 c =
     passed1 (goal.at.Else-heights-posts c).Else-stated-file ∙ row-passed _ _ (ap not (eq-eqb (length a.heights.now) (posts_in a.file.now) (omega (arith, posts (goal.at.Else-heights-posts c).After-posts_in-posts))))
 
 -- the first filed height that is out of range
-module _ (c : After-first_out-post) where
+module _ (c : After-first_out) where
   abbrev tenths : List ℤ
-  tenths = tenths_of (F (goal.at.After-first_out-post c).Else-header-ne0) (posts_in (F (goal.at.After-first_out-post c).Else-header-ne0))
+  tenths = tenths_of (F (goal.at.After-first_out c).Else-header-ne0) (posts_in (F (goal.at.After-first_out c).Else-header-ne0))
 
-  out : c.first_out-post.result ≡ first_not is_tenths tenths
-  out = rw (posts (goal.at.After-first_out-post c).After-posts_in-posts) at c.first_out-post.ensures
-
-  ranged : (row4 is_tenths tenths).holds ≡ ltb c.first_out-post.result c.posts_in-posts.result
-  ranged = rw (← out, length-tenths_of (F (goal.at.After-first_out-post c).Else-header-ne0) (posts_in (F (goal.at.After-first_out-post c).Else-header-ne0)), ← posts (goal.at.After-first_out-post c).After-posts_in-posts)
+  ranged : (row4 is_tenths tenths).holds ≡ ltb (first_not is_tenths tenths) c.posts_in-posts.result
+  ranged = rw (length-tenths_of (F (goal.at.After-first_out c).Else-header-ne0) (posts_in (F (goal.at.After-first_out c).Else-header-ne0)), ← posts (goal.at.After-first_out c).After-posts_in-posts)
 
 pub returns-then-header-ne0 : goal.returns-then-header-ne0
 unfolding read_verdict
@@ -97,21 +94,24 @@ returns-then-heights-posts c = sym (passed1 (goal.at.returns-then-heights-posts 
 equal-both : (n a b : ℕ) → not (eqb n a) || not (eqb n b) ≡ false → (n ≡ a) × (n ≡ b)
 equal-both n a b e = (eqb-true n a (not-false _ (or_left _ _ e)), eqb-true n b (not-false _ (or_right (not (eqb n a)) _ e)))
 
-pub first_out-post-requires : goal.first_out-post-requires
-first_out-post-requires c =
-    let branch = (goal.at.first_out-post-requires c).Else-header-ne0 in
+pub first_out-requires : goal.first_out-requires
+first_out-requires c =
+    let branch = (goal.at.first_out-requires c).Else-header-ne0 in
     let k = equal-both c.word_at-stated.result _ _ c.if-stated-file.false in
     let h = header-bounds (version_in (F branch)) in
     let l = long branch in
     (c.header_size-before.ensures, omega (arith, h, l, k.0, k.1, c.header_size-before.ensures))
 
-pub returns-then-post-posts : goal.returns-then-post-posts
-returns-then-post-posts c =
-    let after = (goal.at.returns-then-post-posts c).After-first_out-post in
-    rw (out after) (sym (passed2 (goal.at.returns-then-post-posts c).Else-heights-posts ∙ row-holds _ _ (ranged after ∙ lt-ltb _ _ c.if-post-posts.true)))
+pub returns-in-Some : goal.returns-in-Some
+returns-in-Some c =
+    let after = (goal.at.returns-in-Some c).After-first_out in
+    let found = rw (posts (goal.at.returns-in-Some c).After-posts_in-posts) at c.in-Some.ensures.0 in
+    rw (← found) (sym (passed2 (goal.at.returns-in-Some c).Else-heights-posts ∙ row-holds _ _ (ranged after ∙ lt-ltb _ _ (rw found c.in-Some.ensures.1))))
 
-pub returns : goal.returns
-returns c = sym (passed2 (goal.at.returns c).Else-heights-posts ∙ row-passed _ _ (ranged (goal.at.returns c).After-first_out-post ∙ le-ltb _ _ c.if-post-posts.false) ∙ none_left)
+pub returns-in-None : goal.returns-in-None
+returns-in-None c =
+    let found = rw (posts (goal.at.returns-in-None c).After-posts_in-posts) at c.in-None.ensures in
+    sym (passed2 (goal.at.returns-in-None c).Else-heights-posts ∙ row-passed _ _ (ranged (goal.at.returns-in-None c).After-first_out ∙ le-ltb _ _ (omega (arith, found, posts (goal.at.returns-in-None c).After-posts_in-posts))) ∙ none_left)
 
 pub header_size-before-requires : goal.header_size-before-requires
 header_size-before-requires c = long (goal.at.header_size-before-requires c).Else-header-ne0

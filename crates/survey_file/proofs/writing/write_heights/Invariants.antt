@@ -1,14 +1,10 @@
 -- The loop's invariant: the heights of i posts are stored.
-use Prim.Native.Nat.{◌-◌, ◌≤◌}
 use mathlib.Core.Path.{◌≡◌}
-use lib.ListN.{length, take}
+use lib.ListN.{take}
 use lib.Seq.{sets}
 use Rattle.surface.specs.SurveyFile.{header_for, filed_heights}
 use Rattle.survey_file.specs.Layout.{written}
 use Rattle.survey_file.proofs.writing.write_heights.Given as goal
 
 abbrev pub invariant-loop-i : goal.invariant-loop-i
-invariant-loop-i l = (l.i ≤ length l.heights) × (l.file ≡ sets l.initial.file (header_for written) (filed_heights (take l.i l.heights)))
-
-abbrev pub decreases-loop-i : goal.decreases-loop-i
-decreases-loop-i l = length l.heights - l.i
+invariant-loop-i l = l.file ≡ sets l.initial.file (header_for written) (filed_heights (take l.i l.heights))
