@@ -8,7 +8,7 @@ ghost use Rattle.surface.specs.Plot.{plot_of, posts, max_posts, Valid};
 ghost use Rattle.surface.specs.Marks.{marks_of};
 ghost use Rattle.surface.specs.Patterns.{changes_in, change_table, mark_in};
 
-use changes::{change_table, mark_of};
+use changes::{change_table, changes_of, mark_of};
 use patterns::pattern_plot;
 use surface::Grid;
 
@@ -21,7 +21,7 @@ fn look_up(table: &[u8], patterns: &[u8], changes: &mut [u8])
     ensures { changes.new ≡ stores (λ c. changes_in (get_or patterns.now c 0)) 0 (length patterns.now) changes.old }
 {
     for (c, pattern) in patterns.iter().enumerate() {
-        changes[c] = table[*pattern as usize];
+        changes[c] = changes_of(table, *pattern);
     }
 }
 
