@@ -32,6 +32,14 @@ pub fn change_table() -> [u8; 256]
     CHANGES
 }
 
+// The changes of a pattern, by the table.
+pub fn changes_of(table: &[u8], pattern: u8) -> u8
+    requires { table.now ≡ change_table }
+    ensures { (result ≡ changes_in pattern) × (result ≤ 8) }
+{
+    table[pattern as usize]
+}
+
 // The mark by whether the first side is below and the number of lower runs that start: where none does, all members are of one sort. A sum of two terms
 // of which at most one is not 0, and no branch, since a mark is a toss-up that no processor foresees.
 fn mark_by(first: bool, runs: u8) -> u8

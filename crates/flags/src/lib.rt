@@ -1,25 +1,11 @@
 // Rows of flags: comparisons of the posts of a row with those of the one below it, and along that one.
 #![tactic(auto)]
 
-ghost use Rattle.std.specs.Prelude.{◌≡◌, ◌+◌, ◌≤◌, length};
-ghost use Rattle.surface.specs.Lists.{stores};
 ghost use Rattle.surface.specs.Plot.{plot_of};
 ghost use Rattle.flags.specs.Rows.{South, ForSouth};
 
 use order::{SOUTH, east_row, later_row};
 use surface::Grid;
-
-// Sets n flags from `at` on.
-fn fill_row(flags: &mut [bool], at: usize, n: usize, flag: bool)
-    requires { at + n ≤ length flags.old }
-    ensures { flags.new ≡ stores (λ _. flag) at n flags.old }
-{
-    let mut c = 0;
-    while c < n {
-        flags[at + c] = flag;
-        c += 1;
-    }
-}
 
 // The flags from the row that starts at `base`, and is odd or not, to the one below it, and along that one; below the bottom row is the virtual pit.
 pub fn south_rows(
@@ -44,8 +30,8 @@ pub fn south_rows(
         east_row(heights, grid, next, !odd, under);
         return;
     }
-    fill_row(south, 1, columns, true);
-    fill_row(fall, 1, columns - 1, true);
-    fill_row(rise, 1, columns - 1, true);
-    fill_row(under, 1, columns, false);
+    south[1..columns + 1].fill(true);
+    fall[1..columns].fill(true);
+    rise[1..columns].fill(true);
+    under[1..columns + 1].fill(false);
 }

@@ -27,12 +27,10 @@ fn lower_row(
         (pattern_in highest side.now south.now fall.now rise.now under.now upper.now)
         0 width pattern.old }
 {
-    let mut c = 0;
-    while c < width {
+    for c in 0..width {
         let e = pair(side[c + 1], fall[c + 1], under[c + 1], highest);
         let s = pair(south[c + 1], rise[c], south[c], highest);
         pattern[c] = upper[c] + 4 * (e + 4 * s);
-        c += 1;
     }
 }
 
@@ -53,12 +51,10 @@ pub fn upper_row(
         (upper_in highest side.now south.now fall.now rise.now under.now)
         0 width upper.old }
 {
-    let mut c = 0;
-    while c < width {
+    for c in 0..width {
         let n = pair(south[c + 1], rise[c + 1], south[c + 2], !highest);
         let w = pair(under[c], fall[c], side[c], !highest);
         upper[c] = UPPER - (n + 64 * w);
-        c += 1;
     }
 }
 

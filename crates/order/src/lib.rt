@@ -116,24 +116,10 @@ fn later_block(heights: &[i32], grid: Grid, p: usize, q: usize, tie: bool) -> [b
     ensures { result ≡ list_of (λ k. below (plot_of grid heights.now) (q + k) (p + k)) 16 }
 {
     let mut block = [false; BLOCK];
-    let mut k = 0;
-    while k < BLOCK {
-        block[k] = is_below_by(heights, grid, q + k, p + k, tie);
-        k += 1;
+    for (k, flag) in block.iter_mut().enumerate() {
+        *flag = is_below_by(heights, grid, q + k, p + k, tie);
     }
     block
-}
-
-// Stores a block in the flags `at` and on.
-fn put_block(block: [bool; BLOCK], flags: &mut [bool], at: usize)
-    requires { at + 16 ≤ length flags.old }
-    ensures { flags.new ≡ stores (λ k. get_or block (k - at) false) at 16 flags.old }
-{
-    let mut k = 0;
-    while k < BLOCK {
-        flags[at + k] = block[k];
-        k += 1;
-    }
 }
 
 // `later_row` for a block. (Both calls of this one the compiler makes fast; of two functions called twice it does so once.)
@@ -149,7 +135,8 @@ fn later_flags(
     requires { Valid (plot_of grid heights.now) × (p < q) × (q + 16 ≤ posts (plot_of grid heights.now)) × Drives grid.columns tie p q 16 × (at + 16 ≤ length flags.old) }
     ensures { flags.new ≡ stores (λ k. below (plot_of grid heights.now) (q + (k - at)) (p + (k - at))) at 16 flags.old }
 {
-    put_block(later_block(heights, grid, p, q, tie), flags, at);
+    let block = later_block(heights, grid, p, q, tie);
+    flags[at..at + BLOCK].copy_from_slice(&block);
 }
 
 // `later_row` flag by flag, for rows shorter than a block.
@@ -166,10 +153,8 @@ fn later_each(
     requires { Valid (plot_of grid heights.now) × (p < q) × (q + n ≤ posts (plot_of grid heights.now)) × Drives grid.columns tie p q n × (at + n ≤ length flags.old) }
     ensures { flags.new ≡ stores (λ k. below (plot_of grid heights.now) (q + (k - at)) (p + (k - at))) at n flags.old }
 {
-    let mut i = 0;
-    while i < n {
+    for i in 0..n {
         flags[at + i] = is_below_by(heights, grid, q + i, p + i, tie);
-        i += 1;
     }
 }
 
@@ -192,10 +177,8 @@ pub fn later_row(
         later_each(heights, grid, p, q, tie, flags, at, n);
         return;
     }
-    let mut i = 0;
-    while i + BLOCK < n {
+    for i in (0..n - BLOCK).step_by(BLOCK) {
         later_flags(heights, grid, p + i, q + i, tie, flags, at + i);
-        i += BLOCK;
     }
     // the last block ends where the row does, and may store some flags again
     let last = n - BLOCK;

@@ -8,21 +8,17 @@ ghost use Rattle.surface.specs.Plot.{max_posts};
 ghost use Rattle.surface.specs.Patterns.{changes_in, change_table, mark_in};
 ghost use Rattle.tally.specs.Tally.{Counted};
 
-use changes::change_table;
-use tally::{Tally, count_part, part_end};
+use changes::{change_table, changes_of};
+use tally::{PART, Tally, count_part};
 
-// The changes of the patterns from `from` to before `to`, summed.
-fn sum_part(table: &[u8], patterns: &[u8], from: usize, to: usize) -> u32
-    requires { (table.now ≡ change_table) × (from ≤ to) × (to ≤ from + 240) × (to ≤ length patterns.now) }
-    ensures { (result + total (map changes_in (drop to patterns.now)) ≡ total (map changes_in (drop from patterns.now))) × (result + 8 * from ≤ 8 * to) }
+// The changes of a part's patterns, summed.
+fn sum_part(table: &[u8], part: &[u8]) -> u32
+    requires { (table.now ≡ change_table) × (length part.now ≤ 240) }
+    ensures { (result ≡ total (map changes_in part.now)) × (result ≤ 8 * length part.now) }
 {
-    let mut n: u32 = 0;
-    let mut i = from;
-    while i < to {
-        n += table[patterns[i] as usize] as u32;
-        i += 1;
-    }
-    n
+    part.iter()
+        .map(|pattern| changes_of(table, *pattern) as u32)
+        .sum()
 }
 
 // Counts the marks that the patterns tell; the virtual pit is a pit. Half as many runs start as there are changes, and every post but peaks and pits has one
@@ -35,13 +31,10 @@ pub fn count_patterns(patterns: &[u8]) -> Tally
     let mut peaks: u32 = 0;
     let mut pits: u32 = 0;
     let mut changes: u32 = 0;
-    let mut i = 0;
-    while i < patterns.len() {
-        let to = part_end(i, patterns.len());
-        peaks += count_part(patterns, i, to, 255) as u32;
-        pits += count_part(patterns, i, to, 0) as u32;
-        changes += sum_part(&table, patterns, i, to);
-        i = to;
+    for part in patterns.chunks(PART) {
+        peaks += count_part(part, 255) as u32;
+        pits += count_part(part, 0) as u32;
+        changes += sum_part(&table, part);
     }
     Tally {
         peaks,

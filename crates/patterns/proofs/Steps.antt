@@ -20,10 +20,8 @@ use Rattle.heads.proofs.Turned.{upper-told}
 
 -- where the patterns stand at the head of row r: the rows before it are done
 pub record State (pl : Plot) (patterns₀ patterns : List ℕ) (side south fall rise under : List Bool) (upper pattern : List ℕ) (width r : ℕ) : Type 0 where
-  pub inside : r ≤ pl.rows
   pub wide : pl.columns ≤ width
   pub narrow : width ≤ 128
-  pub patterns_long : length patterns ≡ length patterns₀
   pub side_long : length side ≡ 130
   pub south_long : length south ≡ 130
   pub fall_long : length fall ≡ 130

@@ -16,18 +16,6 @@ const WIDTH: usize = 128;
 
 const FLAGS: usize = 130;
 
-// Copies the first n patterns to those from `at` on.
-fn copy_row(from: &[u8], n: usize, patterns: &mut [u8], at: usize)
-    requires { (n ≤ length from.now) × (at + n ≤ length patterns.old) }
-    ensures { patterns.new ≡ stores (λ k. get_or from.now (k - at) 0) at n patterns.old }
-{
-    let mut c = 0;
-    while c < n {
-        patterns[at + c] = from[c];
-        c += 1;
-    }
-}
-
 // The patterns of a whole plot.
 pub fn pattern_plot(heights: &[i32], grid: Grid, patterns: &mut [u8])
     requires { Valid (plot_of grid heights.now) × (length patterns.old ≡ posts (plot_of grid heights.now)) }
@@ -47,8 +35,7 @@ pub fn pattern_plot(heights: &[i32], grid: Grid, patterns: &mut [u8])
         heights, grid, &side, &mut south, &mut fall, &mut rise, &mut under, &mut upper, width,
     );
     side = under;
-    let mut r = 0;
-    while r < rows {
+    for r in 0..rows {
         let base = r * columns;
         south_rows(
             heights,
@@ -71,8 +58,7 @@ pub fn pattern_plot(heights: &[i32], grid: Grid, patterns: &mut [u8])
             &mut pattern,
             width,
         );
-        copy_row(&pattern, columns, patterns, base);
+        patterns[base..base + columns].copy_from_slice(&pattern[..columns]);
         side = under;
-        r += 1;
     }
 }

@@ -5,7 +5,7 @@ ghost use Rattle.surface.specs.Marks.{mark_at};
 ghost use Rattle.surface.specs.Patterns.{change_table};
 
 use crate::pattern::pattern_at;
-use changes::{change_table, mark_of};
+use changes::{change_table, changes_of, mark_of};
 use surface::Grid;
 
 // The mark of any post, by a table of changes that is at hand.
@@ -14,7 +14,7 @@ pub fn mark_with(heights: &[i32], grid: Grid, table: &[u8], p: usize) -> u8
     ensures { result ≡ mark_at (plot_of grid heights.now) p }
 {
     let pattern = pattern_at(heights, grid, p);
-    mark_of(pattern, table[pattern as usize])
+    mark_of(pattern, changes_of(table, pattern))
 }
 
 // The mark of any post.

@@ -23,18 +23,6 @@ pub struct BeforeAfter {
     pub after: Tally,
 }
 
-// Copies a list of heights to one of the same length.
-fn copy(heights: &[i32], to: &mut [i32])
-    requires { length to.old ≡ length heights.now }
-    ensures { to.new ≡ heights.now }
-{
-    let mut i = 0;
-    while i < heights.len() {
-        to[i] = heights[i];
-        i += 1;
-    }
-}
-
 // Redraws the marks of a plot as a re-shoot does, on a copy of its heights.
 fn redraw_copy(
     heights: &[i32],
@@ -47,7 +35,7 @@ fn redraw_copy(
     requires { PostOf (plot_of grid heights.now) post × (is_height height ≡ true) × (length room.old ≡ length heights.now) × (length marks.old ≡ posts (plot_of grid heights.now)) }
     ensures { marks.new ≡ redrawn (reshot (plot_of grid heights.now) post height) marks.old post }
 {
-    copy(heights, room);
+    room.copy_from_slice(heights);
     room[post] = height;
     redraw(room, grid, post, marks);
 }

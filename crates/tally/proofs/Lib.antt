@@ -1,2 +1,2 @@
--- Scans of a list of marks.
-pub mod Scans
+-- Counts and sums of a list, part by part.
+pub mod Parts

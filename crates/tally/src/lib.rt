@@ -9,18 +9,14 @@ ghost use Rattle.tally.specs.Tally.{Counted};
 
 use surface::{PEAK, PIT};
 
+// How many marks a part has.
+pub const PART: usize = 240;
+
 #[derive(Clone, Copy)]
 pub struct Tally {
     pub peaks: u32,
     pub pits: u32,
     pub saddles: u32,
-}
-
-// 1 where the mark is this one, else 0.
-fn is_mark(m: u8, mark: u8) -> u8
-    ensures { (result ≡ one (eqb m mark)) × (result ≤ 1) }
-{
-    (m == mark) as u8
 }
 
 // The multiplicity of a saddle, 0 of any other mark.
@@ -33,43 +29,20 @@ fn multiplicity_of(m: u8) -> u16
     (m - 2) as u16
 }
 
-// How many of the marks, or other bytes, from `from` to before `to` are this one.
-pub fn count_part(marks: &[u8], from: usize, to: usize, mark: u8) -> u8
-    requires { (from ≤ to) × (to ≤ from + 240) × (to ≤ length marks.now) }
-    ensures { (result + count (λ m. eqb m mark) (drop to marks.now) ≡ count (λ m. eqb m mark) (drop from marks.now)) × (result + from ≤ to) }
+// How many of a part's marks, or other bytes, are this one.
+pub fn count_part(part: &[u8], mark: u8) -> u8
+    requires { length part.now ≤ 240 }
+    ensures { (result ≡ count (λ m. eqb m mark) part.now) × (result ≤ length part.now) }
 {
-    let mut n: u8 = 0;
-    let mut i = from;
-    while i < to {
-        n += is_mark(marks[i], mark);
-        i += 1;
-    }
-    n
+    part.iter().map(|m| (*m == mark) as u8).sum()
 }
 
 // Their multiplicities summed.
-fn total_part(marks: &[u8], from: usize, to: usize) -> u16
-    requires { (from ≤ to) × (to ≤ from + 240) × (to ≤ length marks.now) }
-    ensures { (result + total (map multiplicity (drop to marks.now)) ≡ total (map multiplicity (drop from marks.now))) × (result + 255 * from ≤ 255 * to) }
+fn total_part(part: &[u8]) -> u16
+    requires { length part.now ≤ 240 }
+    ensures { (result ≡ total (map multiplicity part.now)) × (result ≤ 255 * length part.now) }
 {
-    let mut n: u16 = 0;
-    let mut i = from;
-    while i < to {
-        n += multiplicity_of(marks[i]);
-        i += 1;
-    }
-    n
-}
-
-// The end of the part that starts at `from`.
-pub fn part_end(from: usize, end: usize) -> usize
-    requires { (from ≤ end) × (end ≤ max_posts) }
-    ensures { result ≡ min (from + 240) end }
-{
-    if from + 240 < end {
-        return from + 240;
-    }
-    end
+    part.iter().map(|m| multiplicity_of(*m)).sum()
 }
 
 // Counts the marks; the virtual pit is a pit.
@@ -80,13 +53,10 @@ pub fn count(marks: &[u8]) -> Tally
     let mut peaks: u32 = 0;
     let mut pits: u32 = 1;
     let mut saddles: u32 = 0;
-    let mut i = 0;
-    while i < marks.len() {
-        let to = part_end(i, marks.len());
-        peaks += count_part(marks, i, to, PEAK) as u32;
-        pits += count_part(marks, i, to, PIT) as u32;
-        saddles += total_part(marks, i, to) as u32;
-        i = to;
+    for part in marks.chunks(PART) {
+        peaks += count_part(part, PEAK) as u32;
+        pits += count_part(part, PIT) as u32;
+        saddles += total_part(part) as u32;
     }
     Tally {
         peaks,

@@ -1,9 +1,16 @@
 -- Four rows of comparisons, or the virtual pit.
 use Prim.Native.Nat.{ℕ, ◌+◌, ◌-◌, ◌*◌, ◌≤◌, ◌<◌}
 use native.Mathlib.Omega.{arith}
-use mathlib.Core.Path.{◌≡◌, sym, ap, ◌∙◌}
-use mathlib.Core.Bool.{false, not}
+use mathlib.Core.Path.{◌≡◌, refl, sym, ap, ◌∙◌}
+use mathlib.Core.Bool.{Bool, true, false, not}
+use mathlib.Core.List.{List}
+use lib.ListN.{length, take, drop, replicate}
+use borrow.Rule.Slice.PartMut.{put_mid}
+use borrow.Author.Rules.{rules}
+use Rattle.std.proofs.lemmas.List.{places}
+use Rattle.surface.specs.Lists.{stores}
 use Rattle.surface.specs.Plot.{column, Sides}
+use Rattle.surface.proofs.General.Slices.{fill-stores}
 use Rattle.surface.proofs.AnyOrder.Grid.{column-is, column-south, left_false}
 use Rattle.surface.proofs.OfPlots.Driven.{far-told, corner-told, odd-south}
 use Rattle.order.specs.Ties.{Drives}
@@ -86,25 +93,20 @@ returns-then-next-heights c =
     let pre = c.requires in
     south-stored pre.valid pre.at pre.long pre.ends pre.sides (below (goal.at.returns-then-next-heights c).Then-next-heights).1 c.later_row.ensures c.later_row-then-next-heights.ensures c.later_row-then-next-heights-2.ensures c.east_row.ensures
 
-pub fill_row-requires : goal.fill_row-requires
-fill_row-requires c = let pre = c.requires in omega (arith, pre.long.south_long, pre.valid.sides.wide)
-
-pub overflow_sub-columns-2 : goal.overflow_sub-columns-2
-overflow_sub-columns-2 c = omega (arith, c.requires.valid.sides)
-
-pub fill_row-requires-2 : goal.fill_row-requires-2
-fill_row-requires-2 c = let pre = c.requires in omega (arith, pre.long.fall_long, pre.valid.sides.wide)
-
-pub overflow_sub-columns-3 : goal.overflow_sub-columns-3
-overflow_sub-columns-3 c = omega (arith, c.requires.valid.sides)
-
-pub fill_row-requires-3 : goal.fill_row-requires-3
-fill_row-requires-3 c = let pre = c.requires in omega (arith, pre.long.rise_long, pre.valid.sides.wide)
-
-pub fill_row-requires-4 : goal.fill_row-requires-4
-fill_row-requires-4 c = let pre = c.requires in omega (arith, pre.long.under_long, pre.valid.sides.wide)
+-- the flags 1 and on, n of them, filled
+filled : (x : Bool) (n e : ℕ) (l new : List Bool) → e ≡ n + 1 → e ≤ length l
+    → (((y : Bool) → y ≡ x → y ≡ x) → new ≡ replicate (length (take (e - 1) (drop 1 l))) x)
+    → put_mid 1 (e - 1) l new ≡ stores (λ _. x) 1 n l
+filled x n e l new p h w =
+    let m : length (take (e - 1) (drop 1 l)) ≡ e - 1 = search (rules, places) in
+    fill-stores 1 n e l new x (omega arith) h (rw m at (w (λ y q. q)))
 
 pub returns : goal.returns
 returns c =
     let pre = c.requires in
-    south-pit pre.valid pre.at pre.long pre.ends pre.sides (omega (arith, pre.valid.size, c.if-next-heights.false)) c.fill_row.ensures c.fill_row-2.ensures c.fill_row-3.ensures c.fill_row-4.ensures
+    let n = c.args.grid.columns in
+    south-pit pre.valid pre.at pre.long pre.ends pre.sides (omega (arith, pre.valid.size, c.if-next-heights.false))
+    (filled true n _ _ _ refl (omega (arith, pre.long.south_long)) c.fill.ensures.after)
+    (filled true (n - 1) _ _ _ (omega (arith, pre.valid.sides.wide)) pre.long.fall_long c.fill-2.ensures.after)
+    (filled true (n - 1) _ _ _ (omega (arith, pre.valid.sides.wide)) pre.long.rise_long c.fill-3.ensures.after)
+    (filled false n _ _ _ refl (omega (arith, pre.long.under_long)) c.fill-4.ensures.after)

@@ -1,14 +1,13 @@
 use Prim.Native.Nat.{◌+◌}
 use native.Mathlib.Omega.{arith}
-use mathlib.Core.Path.{◌≡◌, refl, ◌∙◌}
-use lib.ListN.{length-set}
+use mathlib.Core.Path.{◌≡◌, refl}
 use Rattle.surface.specs.Lists.{stores}
 use Rattle.surface.proofs.General.Stores.{store-next}
 use Rattle.halves.proofs.lower_row.Goals as goal
 
 pub loop-c-init : goal.loop-c-init
 unfolding stores
-loop-c-init c = (omega arith, refl, refl)
+loop-c-init c = refl
 
 pub overflow_mul-pattern : goal.overflow_mul-pattern
 overflow_mul-pattern c = omega (arith, c.pair-s.ensures.1)
@@ -26,14 +25,11 @@ overflow_add-pattern-in-loop-c c =
 pub loop-c-preserved : goal.loop-c-preserved
 loop-c-preserved c =
     let l = c.loop-c in
-    let a = c.args in (
-      omega arith,
-      length-set l.pattern _ _ ∙ l.invariant.1,
-      store-next _ 0 l.c (l.c + 1) l.pattern a.pattern.now l.c _ l.invariant.2 (omega arith) refl (rw (c.pair-s.ensures.0, c.pair-e.ensures.0)),
-    )
+    let a = c.args in
+    store-next _ 0 l.c (l.c + 1) l.pattern a.pattern.now l.c _ l.invariant (omega arith) refl (rw (c.pair-s.ensures.0, c.pair-e.ensures.0))
 
 pub returns : goal.returns
 returns c =
     let l = c.loop-c in
     let e : l.c ≡ c.args.width = omega arith in
-    rw e at l.invariant.2
+    rw e at l.invariant

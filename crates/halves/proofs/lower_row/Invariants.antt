@@ -1,16 +1,8 @@
 -- The loop's invariant: c patterns were stored.
-use Prim.Native.Nat.{◌-◌, ◌≤◌}
 use mathlib.Core.Path.{◌≡◌}
-use lib.ListN.{length}
 use Rattle.surface.specs.Lists.{stores}
 use Rattle.halves.specs.Halves.{pattern_in}
 use Rattle.halves.proofs.lower_row.Given as goal
 
 abbrev pub invariant-loop-c : goal.invariant-loop-c
-invariant-loop-c l =
-    (l.c ≤ l.width)
-    × (length l.pattern ≡ length l.initial.pattern)
-    × (l.pattern ≡ stores (pattern_in l.highest l.side l.south l.fall l.rise l.under l.upper) 0 l.c l.initial.pattern)
-
-abbrev pub decreases-loop-c : goal.decreases-loop-c
-decreases-loop-c l = l.width - l.c
+invariant-loop-c l = l.pattern ≡ stores (pattern_in l.highest l.side l.south l.fall l.rise l.under l.upper) 0 l.c l.initial.pattern

@@ -10,7 +10,7 @@ use Rattle.surface.specs.Marks.{marks_of}
 use Rattle.surface.specs.Patterns.{pattern_at, mark_in}
 use Rattle.surface.proofs.General.ListOf.{get_or-list_of, length-list_of, list_of-ext}
 use Rattle.surface.proofs.General.Stores.{stores-all}
-use Rattle.surface.proofs.OfPlots.Patterns.{mark-in, pattern_lt}
+use Rattle.surface.proofs.OfPlots.Patterns.{mark-in}
 use Rattle.marks.proofs.mark_plot.Goals as goal
 
 module _ {pl : Plot} (valid : Valid pl) {patterns : List ℕ} (e : patterns ≡ list_of (pattern_at pl) (posts pl)) where
@@ -19,9 +19,6 @@ module _ {pl : Plot} (valid : Valid pl) {patterns : List ℕ} (e : patterns ≡ 
 
   entry : (k : ℕ) → k < posts pl → get_or patterns k 0 ≡ pattern_at pl k
   entry k h = ap (λ (l : List ℕ). get_or l k 0) e ∙ get_or-list_of (pattern_at pl) (posts pl) k 0 h
-
-  small : (k : ℕ) → k < length patterns → get_or patterns k 0 < 256
-  small k h = rw (entry k (omega (arith, long))) (pattern_lt (record { valid = valid; post = omega (arith, long) }))
 
   told : stores (λ k. mark_in (get_or patterns k 0)) 0 (length patterns) patterns ≡ marks_of pl
   unfolding marks_of
@@ -32,7 +29,7 @@ module _ {pl : Plot} (valid : Valid pl) {patterns : List ℕ} (e : patterns ≡ 
 pub mark_all-requires : goal.mark_all-requires
 mark_all-requires c =
     let e = c.pattern_plot.ensures in
-    (omega (arith, long c.requires.0 e, c.requires.0.sides), small c.requires.0 e)
+    omega (arith, long c.requires.0 e, c.requires.0.sides)
 
 pub returns : goal.returns
 returns c = c.mark_all.ensures ∙ told c.requires.0 c.pattern_plot.ensures

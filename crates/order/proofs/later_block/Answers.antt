@@ -2,14 +2,13 @@ use Prim.Native.Nat.{◌+◌}
 use native.Mathlib.Omega.{arith}
 use mathlib.Core.Path.{◌≡◌, refl, sym, ◌∙◌}
 use mathlib.Core.Bool.{false}
-use lib.ListN.{length-set}
 use Rattle.surface.specs.Lists.{stores}
 use Rattle.surface.proofs.General.Stores.{store-next, stores-all}
 use Rattle.order.proofs.later_block.Goals as goal
 
 pub loop-k-init : goal.loop-k-init
 unfolding stores
-loop-k-init c = (omega arith, refl, refl)
+loop-k-init c = refl
 
 pub is_below_by-requires : goal.is_below_by-requires
 is_below_by-requires c =
@@ -18,14 +17,11 @@ is_below_by-requires c =
 
 pub loop-k-preserved : goal.loop-k-preserved
 loop-k-preserved c =
-    let l = c.loop-k in (
-      omega arith,
-      length-set l.block _ _ ∙ l.invariant.1,
-      store-next _ 0 l.k (l.k + 1) l.block _ l.k _ l.invariant.2 (omega arith) refl c.is_below_by.ensures,
-    )
+    let l = c.loop-k in
+    store-next _ 0 l.k (l.k + 1) l.flag-items _ l.k _ l.invariant (omega arith) refl c.is_below_by.ensures
 
 pub returns : goal.returns
 returns c =
     let l = c.loop-k in
     let e : l.k ≡ 16 = omega arith in
-    (rw e at l.invariant.2) ∙ stores-all _ 16 _ false refl
+    (rw e at l.invariant) ∙ stores-all _ 16 _ false refl

@@ -6,6 +6,7 @@ use mathlib.Core.Bool.{Bool, true, false}
 use lib.ListN.{get_or, replicate}
 use Rattle.surface.specs.Lists.{stores}
 use Rattle.surface.specs.Plot.{is_odd}
+use Rattle.surface.proofs.General.Slices.{copy-stores}
 use Rattle.surface.proofs.General.Stores.{stores-join, stores-all}
 use Rattle.surface.proofs.AnyOrder.Grid.{row_is}
 use Rattle.flags.specs.Rows.{RowOf}
@@ -61,10 +62,8 @@ loop-r-init c =
     let k = c.args.grid.columns in
     let t = c.top_row in
     record {
-      inside = omega arith;
       wide = omega arith;
       narrow = omega (arith, f.sides);
-      patterns_long = refl;
       side_long = t.auto.under;
       south_long = t.auto.south;
       fall_long = t.auto.fall;
@@ -114,16 +113,6 @@ pattern_row-requires c =
       low = (v.head c.loop-r-test.true).low;
     }
 
-pub copy_row-requires : goal.copy_row-requires
-copy_row-requires c =
-    let v = c.loop-r.invariant in (
-      omega (arith, c.pattern_row.auto.pattern, v.pattern_long, v.wide, v.narrow),
-      omega (arith, row (goal.at.copy_row-requires c).In-loop-r, v.patterns_long, c.requires.1),
-    )
-
-pub overflow_add-r : goal.overflow_add-r
-overflow_add-r c = omega (arith, c.loop-r-test.true, c.requires.0.sides)
-
 pub loop-r-preserved : goal.loop-r-preserved
 loop-r-preserved c =
     let turn = (goal.at.loop-r-preserved c).In-loop-r in
@@ -137,10 +126,8 @@ loop-r-preserved c =
     let p = c.pattern_row in
     let next : (l.r + 1) * k ≡ l.r * k + k = omega (arith, add-mul l.r 1 k, one-mul k) in
     record {
-      inside = omega (arith, c.loop-r-test.true);
       wide = v.wide;
       narrow = v.narrow;
-      patterns_long = c.copy_row.auto.patterns ∙ v.patterns_long;
       side_long = s.auto.under ∙ v.under_long;
       south_long = s.auto.south ∙ v.south_long;
       fall_long = s.auto.fall ∙ v.fall_long;
@@ -154,7 +141,8 @@ loop-r-preserved c =
           (head-next f (row turn) v.wide s.ensures h.along (omega (arith, next, mul-le-mul_right k m, add-mul (l.r + 1) 1 k, one-mul k, f.sides)) l.upper _ (omega (arith, v.upper_long, v.narrow)) p.ensures.upper_after);
       done =
           stores-join _ 0 (l.r * k) (l.r * k) k ((l.r + 1) * k) a.patterns.now _ _ v.done
-          (row-stored f (row turn) v.wide s.ensures l.upper h.above h.along l.pattern _ _ _ (omega (arith, v.pattern_long, v.narrow)) p.ensures.pattern_after c.copy_row.ensures)
+          (row-stored f (row turn) v.wide s.ensures l.upper h.above h.along l.pattern _ _ _ (omega (arith, v.pattern_long, v.narrow)) p.ensures.pattern_after
+          (copy-stores (l.r * k) k (l.r * k + k) l.patterns _ _ 0 refl (omega (arith, row turn, l.auto.patterns, c.requires.1)) (omega (arith, p.auto.pattern, v.pattern_long, v.wide, v.narrow)) c.copy_from_slice.ensures.after))
           (omega arith)
           next;
     }
@@ -162,5 +150,5 @@ loop-r-preserved c =
 pub returns : goal.returns
 returns c =
     let a = c.args in
-    let e : c.loop-r.r ≡ a.grid.rows = omega (arith, c.loop-r-test.false, c.loop-r.invariant.inside) in
+    let e : c.loop-r.r ≡ a.grid.rows = omega (arith, c.loop-r-test.false, c.loop-r.auto.r-end) in
     c.loop-r.invariant.done ∙ rw e (stores-all _ (a.grid.rows * a.grid.columns) a.patterns.now 0 c.requires.1)

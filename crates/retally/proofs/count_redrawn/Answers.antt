@@ -23,8 +23,7 @@ few : (s : Start) → length s.args.patterns.now ≤ max_copy
 few s = omega (arith, s.requires.2, s.requires.3, s.requires.0.valid.size)
 
 pub mark_all-requires : goal.mark_all-requires
-mark_all-requires c =
-    (omega (arith, few (goal.at.mark_all-requires c).Start), λ k _. omega (arith, c.slice_known-1.given k))
+mark_all-requires c = omega (arith, few (goal.at.mark_all-requires c).Start)
 
 -- the marks that are made
 made : (c : After-mark_all) → c.mark_all.new.marks ≡ map mark_in c.args.patterns.now

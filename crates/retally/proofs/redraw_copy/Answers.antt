@@ -14,9 +14,9 @@ held s = search rules
 pub redraw-requires : goal.redraw-requires
 redraw-requires c =
     let a = c.requires in
-    rw (held (goal.at.redraw-requires c).Start, c.copy.ensures)
+    rw (held (goal.at.redraw-requires c).Start, c.copy_from_slice.ensures.after)
     (record { valid = reshot-valid _ c.args.post c.args.height a.0.valid a.1; post = a.0.post }, a.3)
 
 pub returns : goal.returns
 returns c =
-    rw (held (goal.at.returns c).Start, c.copy.ensures) at c.redraw.ensures
+    rw (held (goal.at.returns c).Start, c.copy_from_slice.ensures.after) at c.redraw.ensures

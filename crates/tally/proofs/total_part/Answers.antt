@@ -1,19 +1,15 @@
+use mathlib.Core.Path.{◌≡◌, ◌∙◌}
+use mathlib.Core.List.{map}
 use native.Mathlib.Omega.{arith}
-use mathlib.Core.Path.{◌≡◌}
+use borrow.Author.Rules.{rules}
+use Rattle.std.specs.List.{sum}
 use Rattle.surface.specs.Marks.{multiplicity}
-use Rattle.tally.proofs.Scans.{total-pass}
+use Rattle.surface.proofs.General.Slices.{sum-total}
+use Rattle.tally.proofs.Parts.{total-le}
 use Rattle.tally.proofs.total_part.Goals as goal
-
-pub loop-i-preserved : goal.loop-i-preserved
-loop-i-preserved c =
-    let i = c.before.before in
-    let l = i.before in
-    let ms = l.args.marks.now in
-    omega (arith, total-pass ms l.loop-i.i multiplicity 0 (omega (arith, i.loop-i-test.true, l.requires)))
 
 pub returns : goal.returns
 returns c =
-    let l = c.before in
-    let a = l.args in
-    let e : l.loop-i.i ≡ a.to = omega (arith, c.loop-i-test.false) in
-    (rw e at l.loop-i.invariant.0, omega (arith, l.loop-i.invariant.1))
+    let summed : c.sum.result ≡ sum (map multiplicity c.args.part.now) = search rules in
+    let e = summed ∙ sum-total (map multiplicity c.args.part.now) in
+    (e, rw e (total-le multiplicity 255 c.args.part.now (λ i h. omega (arith, c.type_inv.part i))))

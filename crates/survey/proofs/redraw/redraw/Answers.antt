@@ -27,17 +27,11 @@ whole c =
     let e : r + 1 ≤ g.rows = omega arith in
     (omega (arith, mul-le-mul_right g.columns e, add-mul r 1 g.columns, one-mul g.columns), c.requires.0.valid.sides.few)
 
-pub end_after-requires : goal.end_after-requires
-end_after-requires c = in_column (goal.at.end_after-requires c).Start
-
 pub overflow_sub-width : goal.overflow_sub-width
 overflow_sub-width c = omega (arith, in_column (goal.at.overflow_sub-width c).Start)
 
-pub end_after-end-requires : goal.end_after-end-requires
-end_after-end-requires c = in_row (goal.at.end_after-end-requires c).Start
-
 pub loop-r-init : goal.loop-r-init
-loop-r-init c = (omega arith, omega (arith, in_row (goal.at.loop-r-init c).Start), painted-none c.requires.0.valid.sides _ _ _ _ _)
+loop-r-init c = painted-none c.requires.0.valid.sides _ _ _ _ _
 
 pub overflow_mul-r : goal.overflow_mul-r
 overflow_mul-r c = omega (arith, whole (goal.at.overflow_mul-r c).In-loop-r)
@@ -47,30 +41,27 @@ overflow_add-r c = omega (arith, whole (goal.at.overflow_add-r c).In-loop-r, in_
 
 pub mark_each-requires : goal.mark_each-requires
 mark_each-requires c =
-    (c.requires.0.valid, c.change_table-table.ensures, c.loop-r.invariant.2.long ∙ c.requires.1, omega (arith, whole (goal.at.mark_each-requires c).In-loop-r, in_column (goal.at.mark_each-requires c).Start))
+    (c.requires.0.valid, c.change_table-table.ensures, c.loop-r.invariant.long ∙ c.requires.1, omega (arith, whole (goal.at.mark_each-requires c).In-loop-r, in_column (goal.at.mark_each-requires c).Start))
 
 pub loop-r-preserved : goal.loop-r-preserved
 loop-r-preserved c =
-    let b = c.before-from in
-    let w = c.end_after.result - b.result in
-    let e : b.result + w - b.result ≡ w = omega arith in (
-      omega arith,
-      omega arith,
-      rw c.mark_each.ensures
-          (rw e at
-          (painted-more c.requires.0.valid.sides (mark_at (plot_of c.args.grid c.args.heights.now)) b.result (b.result + w) c.before-r.result c.loop-r.r c.args.marks.now c.loop-r.marks
-          (omega arith)
-          (omega (arith, in_column (goal.at.loop-r-preserved c).Start))
-          c.loop-r.invariant.0
-          (omega (arith, whole (goal.at.loop-r-preserved c).In-loop-r, c.requires.1))
-          c.loop-r.invariant.2)),
-    )
+    let b = c.saturating_sub-from in
+    let w = c.min.result - b.result in
+    let e : b.result + w - b.result ≡ w = omega arith in
+    rw c.mark_each.ensures
+    (rw e at
+    (painted-more c.requires.0.valid.sides (mark_at (plot_of c.args.grid c.args.heights.now)) b.result (b.result + w) c.saturating_sub-first.result c.loop-r.r c.args.marks.now c.loop-r.marks
+    (omega arith)
+    (omega (arith, in_column (goal.at.loop-r-preserved c).Start))
+    (omega arith)
+    (omega (arith, whole (goal.at.loop-r-preserved c).In-loop-r, c.requires.1))
+    c.loop-r.invariant))
 
 pub returns : goal.returns
 returns c =
-    let f = c.before-from in
+    let f = c.saturating_sub-from in
     let g = c.args.grid in
-    let u : f.result + (c.end_after.result - f.result) ≡ min (Plot.column g.columns c.args.post + 2) g.columns = omega (arith, in_column (goal.at.returns c).Start) in
-    let v : c.loop-r.r ≡ min (Plot.row g.columns c.args.post + 2) g.rows = omega arith in
+    let u : f.result + (c.min.result - f.result) ≡ min (Plot.column g.columns c.args.post + 2) g.columns = omega (arith, in_column (goal.at.returns c).Start) in
+    let v : c.loop-r.r ≡ min (Plot.row g.columns c.args.post + 2) g.rows = omega (arith, in_row (goal.at.returns c).Start) in
     painted-redrawn _ c.requires.0.valid.sides c.args.post c.args.marks.now c.loop-r.marks c.requires.1
-    (rw (u, v, f.ensures, c.before-r.ensures) at c.loop-r.invariant.2)
+    (rw (u, v, f.ensures, c.saturating_sub-first.ensures) at c.loop-r.invariant)
