@@ -7,35 +7,34 @@ ghost use Rattle.surface.specs.Lists.{list_of};
 ghost use Rattle.surface.specs.Marks.{multiplicity};
 ghost use Rattle.surface.specs.Patterns.{change_table, mark_in};
 ghost use Rattle.surface.specs.Refusals.{joins_verdict};
-ghost use Rattle.surface.specs.Calls.{plot_said, plot_by, joins_answer, joins_list, splits_list};
+ghost use Rattle.surface.specs.Refused.{outcome, IsGridOf};
+ghost use Rattle.surface.specs.Calls.{plot_by, joins_answer, joins_list, splits_list};
 
 use changes::change_table;
-use limits::{heights_verdict, lead_verdict};
+use limits::{check_heights, plot_grid};
 use patterns::pattern_plot;
-use settings::{grid_of, read_sheet};
 use splits::fill_splits;
-use surface::{Answer, Sheet};
+use surface::{Grid, Refusal};
 
-// What the call answers: rows 13, 14 and 1 to 4 of the table.
-fn verdict(
-    said: Sheet,
+// Rows 13, 14 and 1 to 4 of the table: the grid of what passes.
+fn joins_grid(
+    sheet: &[u8],
     rows: u32,
     columns: u32,
     heights: &[i32],
     joins: &[u8],
     splits: &[u8],
-) -> Answer
-    ensures { result ≡ joins_verdict (plot_said said rows columns heights.now) joins.now splits.now }
+) -> Result<Grid, Refusal>
+    ensures value { outcome result ≡ joins_verdict (plot_by sheet.now rows columns heights.now) joins.now splits.now }
+    ensures grid { IsGridOf (plot_by sheet.now rows columns heights.now) result }
 {
-    let lead = lead_verdict(said, rows, columns, heights);
-    if lead.code != 0 {
-        return lead;
-    }
+    let grid = plot_grid(sheet, rows, columns, heights)?;
     let posts = heights.len();
     if (joins.len() != posts) | (splits.len() != posts) {
-        return Answer { code: 3, place: 0 };
+        return Err(Refusal::BadListLength);
     }
-    heights_verdict(heights)
+    check_heights(heights)?;
+    Ok(grid)
 }
 
 // The joins of a post by its pattern and its splits: half as many runs start as there are changes, and a saddle's multiplicity is one less. No branch, since
@@ -70,19 +69,14 @@ pub fn joins_and_splits(
     heights: &[i32],
     joins: &mut [u8],
     splits: &mut [u8],
-) -> Answer
-    ensures value { result ≡ joins_answer (plot_by sheet.now rows columns heights.now) joins.old splits.old }
+) -> Result<(), Refusal>
+    ensures value { outcome result ≡ joins_answer (plot_by sheet.now rows columns heights.now) joins.old splits.old }
     ensures joins_after { joins.new ≡ joins_list (plot_by sheet.now rows columns heights.now) joins.old splits.old }
     ensures splits_after { splits.new ≡ splits_list (plot_by sheet.now rows columns heights.now) joins.old splits.old }
 {
-    let said = read_sheet(sheet);
-    let answer = verdict(said, rows, columns, heights, joins, splits);
-    if answer.code != 0 {
-        return answer;
-    }
-    let grid = grid_of(said, rows, columns);
+    let grid = joins_grid(sheet, rows, columns, heights, joins, splits)?;
     pattern_plot(heights, grid, joins);
     fill_splits(heights, grid, joins, splits);
     fill_joins(splits, joins);
-    answer
+    Ok(())
 }

@@ -1,2 +1,3 @@
--- A walk of a plot.
+-- A walk of a plot, and the answers of the calls.
 pub mod Walks
+pub mod Told

@@ -7,45 +7,32 @@ mod walk;
 ghost use Rattle.std.specs.Prelude.{◌≡◌};
 ghost use Rattle.surface.specs.Lines.{toward};
 ghost use Rattle.surface.specs.Spacings.{spacings};
-ghost use Rattle.surface.specs.Calls.{plot_said, plot_by, next_answer, next_down_answer, next_up_answer, thalweg_answer, thalweg_list, ridge_answer, ridge_list};
+ghost use Rattle.surface.specs.Calls.{plot_by, next_answer, next_down_answer, next_up_answer, thalweg_answer, thalweg_list, ridge_answer, ridge_list};
+ghost use Rattle.lines.specs.Told.{next_told, line_told};
 
-use limits::post_verdict;
+use limits::post_grid;
 use line::draw_line;
-use settings::{grid_of, read_sheet};
-use surface::{DOWN, Entries, Next, Sheet, Spacings, UP};
+use surface::{DOWN, Refusal, Spacings, UP};
 use walk::Walk;
 
-// Next down, or next up, from a post, by what the sheet says.
+// Next down from a post, or next up where `up`.
 fn next_post(
-    said: Sheet,
+    sheet: &[u8],
     rows: u32,
     columns: u32,
     spacings: Spacings,
     heights: &[i32],
     post: u32,
     up: bool,
-) -> Next
-    ensures { result ≡ next_answer (plot_said said rows columns heights.now) spacings (toward (plot_said said rows columns heights.now) spacings up) post }
+) -> Result<u32, Refusal>
+    ensures { next_told result ≡ next_answer (plot_by sheet.now rows columns heights.now) spacings (toward (plot_by sheet.now rows columns heights.now) spacings up) post }
 {
-    let refusal = post_verdict(said, rows, columns, spacings, heights, post);
-    if refusal.code != 0 {
-        return Next {
-            code: refusal.code,
-            place: refusal.place,
-            post: 0,
-        };
-    }
-    let grid = grid_of(said, rows, columns);
-    let ahead = Walk {
+    let grid = post_grid(sheet, rows, columns, spacings, heights, post)?;
+    let from = Walk {
         post: post as usize,
         up,
-    }
-    .next(heights, grid, spacings);
-    Next {
-        code: 0,
-        place: 0,
-        post: ahead.post as u32,
-    }
+    };
+    Ok(from.next(heights, grid, spacings).post as u32)
 }
 
 // Next down from a post: the steepest way down, the post itself at a pit, 65535 for the virtual pit.
@@ -57,12 +44,11 @@ pub fn next_down(
     south: u32,
     heights: &[i32],
     post: u32,
-) -> Next
-    ensures { result ≡ next_down_answer (plot_by sheet.now rows columns heights.now) (spacings east south) post }
+) -> Result<u32, Refusal>
+    ensures { next_told result ≡ next_down_answer (plot_by sheet.now rows columns heights.now) (spacings east south) post }
 {
     let spacings = Spacings { east, south };
-    let said = read_sheet(sheet);
-    next_post(said, rows, columns, spacings, heights, post, DOWN)
+    next_post(sheet, rows, columns, spacings, heights, post, DOWN)
 }
 
 // Next up from a post: the steepest way up, the post itself at a peak.
@@ -74,15 +60,14 @@ pub fn next_up(
     south: u32,
     heights: &[i32],
     post: u32,
-) -> Next
-    ensures { result ≡ next_up_answer (plot_by sheet.now rows columns heights.now) (spacings east south) post }
+) -> Result<u32, Refusal>
+    ensures { next_told result ≡ next_up_answer (plot_by sheet.now rows columns heights.now) (spacings east south) post }
 {
     let spacings = Spacings { east, south };
-    let said = read_sheet(sheet);
-    next_post(said, rows, columns, spacings, heights, post, UP)
+    next_post(sheet, rows, columns, spacings, heights, post, UP)
 }
 
-// The water line of a saddle and one of its lower runs. Refused: the list stays as it was.
+// The water line of a saddle and one of its lower runs: how many entries it has. Refused: the list stays as it was.
 pub fn thalweg(
     sheet: &[u8],
     rows: u32,
@@ -93,8 +78,8 @@ pub fn thalweg(
     post: u32,
     run: u32,
     line: &mut [u16],
-) -> Entries
-    ensures value { result ≡ thalweg_answer (plot_by sheet.now rows columns heights.now) (spacings east south) post run line.old }
+) -> Result<u32, Refusal>
+    ensures value { line_told result ≡ thalweg_answer (plot_by sheet.now rows columns heights.now) (spacings east south) post run line.old }
     ensures line_after { line.new ≡ thalweg_list (plot_by sheet.now rows columns heights.now) (spacings east south) post run line.old }
 {
     let spacings = Spacings { east, south };
@@ -103,7 +88,7 @@ pub fn thalweg(
     )
 }
 
-// The crest line of a saddle and one of its upper runs. Refused: the list stays as it was.
+// The crest line of a saddle and one of its upper runs: how many entries it has. Refused: the list stays as it was.
 pub fn ridge(
     sheet: &[u8],
     rows: u32,
@@ -114,8 +99,8 @@ pub fn ridge(
     post: u32,
     run: u32,
     line: &mut [u16],
-) -> Entries
-    ensures value { result ≡ ridge_answer (plot_by sheet.now rows columns heights.now) (spacings east south) post run line.old }
+) -> Result<u32, Refusal>
+    ensures value { line_told result ≡ ridge_answer (plot_by sheet.now rows columns heights.now) (spacings east south) post run line.old }
     ensures line_after { line.new ≡ ridge_list (plot_by sheet.now rows columns heights.now) (spacings east south) post run line.old }
 {
     let spacings = Spacings { east, south };

@@ -5,15 +5,15 @@ ghost use Rattle.surface.specs.Plot.{plot_of, posts};
 ghost use Rattle.surface.specs.Lines.{toward};
 ghost use Rattle.surface.specs.Refusals.{next_verdict};
 ghost use Rattle.surface.specs.Calls.{plot_by, line_answer, line_list};
+ghost use Rattle.lines.specs.Told.{line_told};
 ghost use Rattle.lines.specs.Walks.{WalkOf, HasRoom, path};
 
 use crate::walk::{Walk, entries_of};
-use limits::post_verdict;
+use limits::post_grid;
 use post::mark::mark_at;
 use rings::ring::ring_at;
 use runs::line_start;
-use settings::{grid_of, read_sheet};
-use surface::{Entries, Grid, SADDLE, Spacings};
+use surface::{Grid, Refusal, SADDLE, Spacings};
 
 // Whether a list of length `room` takes a saddle and a walk's posts. A list longer than the heights takes every line, so that nothing is counted.
 fn has_room(heights: &[i32], grid: Grid, spacings: Spacings, from: Walk, room: usize) -> bool
@@ -56,18 +56,7 @@ fn write_entries(
     i + 1
 }
 
-// The answer of a line that is refused.
-fn refused(code: u32, place: u32) -> Entries
-    ensures { result ≡ record { code = code; place = place; count = 0 } }
-{
-    Entries {
-        code,
-        place,
-        count: 0,
-    }
-}
-
-// The line of a post that is accepted and a run, downward, or upward where `up`.
+// The line of a post that is accepted and a run, downward, or upward where `up`: how many entries it has.
 fn draw_from(
     heights: &[i32],
     grid: Grid,
@@ -76,28 +65,24 @@ fn draw_from(
     run: u32,
     up: bool,
     line: &mut [u16],
-) -> Entries
+) -> Result<u32, Refusal>
     requires { (next_verdict (plot_of grid heights.now) spacings p).code ≡ 0 }
-    ensures value { result ≡ line_answer (plot_of grid heights.now) spacings (toward (plot_of grid heights.now) spacings up) p run line.old }
+    ensures value { line_told result ≡ line_answer (plot_of grid heights.now) spacings (toward (plot_of grid heights.now) spacings up) p run line.old }
     ensures line_after { line.new ≡ line_list (plot_of grid heights.now) spacings (toward (plot_of grid heights.now) spacings up) p run line.old }
 {
     if mark_at(heights, grid, p) < SADDLE {
-        return refused(7, 0);
+        return Err(Refusal::NotASaddle);
     }
     let ring = ring_at(heights, grid, p);
     let Some(post) = line_start(heights, grid, spacings, up, p, ring, run) else {
-        return refused(8, 0);
+        return Err(Refusal::NoSuchRun);
     };
     let from = Walk { post, up };
     if !has_room(heights, grid, spacings, from, line.len()) {
-        return refused(9, 0);
+        return Err(Refusal::LineTooLong);
     }
     let count = write_entries(heights, grid, spacings, p, from, line);
-    Entries {
-        code: 0,
-        place: 0,
-        count: count as u32,
-    }
+    Ok(count as u32)
 }
 
 // The line of a post and a run.
@@ -111,15 +96,10 @@ pub(crate) fn draw_line(
     run: u32,
     up: bool,
     line: &mut [u16],
-) -> Entries
-    ensures value { result ≡ line_answer (plot_by sheet.now rows columns heights.now) spacings (toward (plot_by sheet.now rows columns heights.now) spacings up) post run line.old }
+) -> Result<u32, Refusal>
+    ensures value { line_told result ≡ line_answer (plot_by sheet.now rows columns heights.now) spacings (toward (plot_by sheet.now rows columns heights.now) spacings up) post run line.old }
     ensures line_after { line.new ≡ line_list (plot_by sheet.now rows columns heights.now) spacings (toward (plot_by sheet.now rows columns heights.now) spacings up) post run line.old }
 {
-    let said = read_sheet(sheet);
-    let refusal = post_verdict(said, rows, columns, spacings, heights, post);
-    if refusal.code != 0 {
-        return refused(refusal.code, refusal.place);
-    }
-    let grid = grid_of(said, rows, columns);
+    let grid = post_grid(sheet, rows, columns, spacings, heights, post)?;
     draw_from(heights, grid, spacings, post as usize, run, up, line)
 }

@@ -10,8 +10,8 @@ use lib.IntN.{ℤ, pos}
 use lib.ListN.{length, replicate, length-replicate}
 use Rattle.surface.specs.Plot.{Plot, ruled, posts, is_side, Valid}
 use Rattle.surface.specs.Spacings.{spacings}
-use Rattle.surface.specs.Refusals.{verdict, survey_verdict, read_verdict}
-use Rattle.surface.specs.Calls.{sheet_says, plot_by, read_answer, read_heights, survey_answer, survey_marks, parts_dales, parts_hills}
+use Rattle.surface.specs.Refusals.{verdict, survey_verdict, parts_verdict, read_verdict}
+use Rattle.surface.specs.Calls.{sheet_says, plot_by, read_answer, read_heights, survey_answer, survey_marks, parts_answer, parts_dales, parts_hills}
 use Rattle.surface.specs.Lister.{decimal, text_line, head_line, plot_text, refused_text, file_listing, listing}
 use Rattle.surface.specs.declared.Answer.{Answer}
 use Rattle.surface.specs.declared.Counts.{Counts}
@@ -26,7 +26,7 @@ use Rattle.surface.proofs.OfCalls.RoundTrip.{read-fresh, read-plot, read-spaced}
 use Rattle.survey_file.specs.Layout.{plot_posts}
 use Rattle.text.specs.Wrote.{line_room, Wrote}
 use Rattle.saddle_lines.specs.Lines.{lines_from, Known}
-use Rattle.listing.specs.First.{Lent, Refuses, Begins}
+use Rattle.listing.specs.First.{Lent, Goes}
 use Rattle.listing.specs.declared.Begun.{Begun}
 use Rattle.text.proofs.Writing.{front}
 use Rattle.saddle_lines.proofs.Chunks.{from_zero}
@@ -75,6 +75,11 @@ module _ (file : List ℕ) (hs : List ℤ) (h : length hs ≡ plot_posts file) w
     surveyed : (marks : List ℕ) → length marks ≡ posts read → (survey_verdict read marks).code ≡ 0
     surveyed marks k = ap (λ (a : Answer). a.code) (valid-survey read marks (record { sheet = (refl, refl); valid = valid; marks_size = k }))
 
+    parted : (dales hills : List ℕ) → length dales ≡ posts read → length hills ≡ posts read → (parts_verdict read apart dales hills).code ≡ 0
+    parted dales hills k m =
+        ap (λ (a : Answer). a.code)
+        (valid-parts read apart dales hills (record { sheet = (refl, refl); valid = valid; spaced = read-spaced file hs e; dales_size = k; hills_size = m }))
+
     -- the counts are those of the marks
     head : (marks : List ℕ) → length marks ≡ posts read
         → let a = survey_answer read marks in
@@ -108,39 +113,42 @@ pub sheet-passes : (sheet file : List ℕ) (said : Sheet) → said ≡ sheet_say
 unfolding listing
 sheet-passes sheet file said i e = rw (← i) (rw e)
 
--- a refusal is a whole listing
-pub begins-refused : {whole buffer : List ℕ} {r : Begun} (hs : List ℤ) (marks dales hills : List ℕ) (text : List ℕ) → text ≡ whole → Refuses text buffer r
-    → Begins whole hs marks dales hills buffer r
-begins-refused hs marks dales hills text e f =
-    record { room = f.room; rest = rw f.refused (f.bytes ∙ e) }
-
 -- the outcome of reading, refused and accepted
 module _ (sheet file : List ℕ) (hs : List ℤ) (h : length hs ≡ plot_posts file) (a : Size) (is_answer : a ≡ read_answer file hs) where
   pub file-refuses : (a.code ≡ 0 → ⊥) → refused_text a.code a.place ≡ file_listing sheet file
   file-refuses n = let m : (read_answer file hs).code ≡ 0 → ⊥ = rw is_answer at n in rw is_answer (refusal file hs h sheet m)
 
-  pub begins-accepted : (highest : Bool) → ((rows columns : ℕ) (heights : List ℤ) → plot_by sheet rows columns heights ≡ ruled highest rows columns heights)
-      → (after : List ℤ) (marks dales hills marks' dales' hills' l l₁ : List ℕ) (counts : Counts) (bytes : ℕ)
-      → a.code ≡ 0
-      → after ≡ read_heights file hs
-      → counts ≡ survey_answer (plot_by sheet a.rows a.columns after) marks
-      → marks' ≡ survey_marks (plot_by sheet a.rows a.columns after) marks
-      → dales' ≡ parts_dales (plot_by sheet a.rows a.columns after) (spacings a.east a.south) dales hills
-      → hills' ≡ parts_hills (plot_by sheet a.rows a.columns after) (spacings a.east a.south) dales hills
-      → Lent file hs marks dales hills
-      → line_room ≤ length l
-      → Wrote line_room l l₁ 0 (text_line 78 (decimal a.rows ∷ decimal a.columns ∷ decimal counts.peaks ∷ decimal counts.pits ∷ decimal counts.saddles ∷ [])) bytes
-      → Begins (file_listing sheet file) after marks' dales' hills' l₁ (record { bytes = bytes; plot = Some (record { grid = record { rows = a.rows; columns = a.columns; highest = highest }; spacings = spacings a.east a.south }) })
-  begins-accepted highest means after marks dales hills marks' dales' hills' l l₁ counts bytes e ea ec em ed eh r k w =
-      let c : (read_answer file hs).code ≡ 0 = rw is_answer at e in
-      let plotted = means a.rows a.columns after in
-      let f = front l l₁ _ bytes k (rw (ec, plotted, ea, is_answer) at w) in
-      let size : plot_posts file ≡ posts (read file hs h sheet highest means c) = sym h ∙ size file hs h sheet highest means c in
-      rw (em, ed, eh, plotted, ea, is_answer)
-      (record {
-        room = f.2;
-        rest = record {
-          text = rw (f.0 ∙ head file hs h sheet highest means c marks (r.marks_size ∙ size)) (left file hs h sheet highest means c);
-          known = known file hs h sheet highest means c marks dales hills (r.marks_size ∙ size) (r.dales_size ∙ size) (r.hills_size ∙ size);
-        };
-      })
+  -- an accepted file has a plot, which can be surveyed and parted
+  module _ (highest : Bool) (means : (rows columns : ℕ) (heights : List ℤ) → plot_by sheet rows columns heights ≡ ruled highest rows columns heights)
+      (after : List ℤ) (marks dales hills : List ℕ) (e : a.code ≡ 0) (ea : after ≡ read_heights file hs) (r : Lent file hs marks dales hills) where
+    c : (read_answer file hs).code ≡ 0
+    c = rw is_answer at e
+
+    plotted : plot_by sheet a.rows a.columns after ≡ ruled highest a.rows a.columns after
+    plotted = means a.rows a.columns after
+
+    room : plot_posts file ≡ posts (read file hs h sheet highest means c)
+    room = sym h ∙ size file hs h sheet highest means c
+
+    pub survey-passes : (survey_answer (plot_by sheet a.rows a.columns after) marks).code ≡ 0
+    unfolding survey_answer
+    survey-passes = rw (plotted, ea, is_answer) (surveyed file hs h sheet highest means c marks (r.marks_size ∙ room))
+
+    pub parts-pass : (parts_answer (plot_by sheet a.rows a.columns after) (spacings a.east a.south) dales hills).code ≡ 0
+    unfolding parts_answer
+    parts-pass = rw (plotted, ea, is_answer) (parted file hs h sheet highest means c dales hills (r.dales_size ∙ room) (r.hills_size ∙ room))
+
+    pub goes : (marks' dales' hills' : List ℕ) (counts : Counts)
+        → counts ≡ survey_answer (plot_by sheet a.rows a.columns after) marks
+        → marks' ≡ survey_marks (plot_by sheet a.rows a.columns after) marks
+        → dales' ≡ parts_dales (plot_by sheet a.rows a.columns after) (spacings a.east a.south) dales hills
+        → hills' ≡ parts_hills (plot_by sheet a.rows a.columns after) (spacings a.east a.south) dales hills
+        → Goes (file_listing sheet file) after marks' dales' hills'
+        (text_line 78 (decimal a.rows ∷ decimal a.columns ∷ decimal counts.peaks ∷ decimal counts.pits ∷ decimal counts.saddles ∷ []))
+        (record { grid = record { rows = a.rows; columns = a.columns; highest = highest }; spacings = spacings a.east a.south })
+    goes marks' dales' hills' counts ec em ed eh =
+        rw (ec, em, ed, eh, plotted, ea, is_answer)
+        (record {
+          text = rw (head file hs h sheet highest means c marks (r.marks_size ∙ room)) (left file hs h sheet highest means c);
+          known = known file hs h sheet highest means c marks dales hills (r.marks_size ∙ room) (r.dales_size ∙ room) (r.hills_size ∙ room);
+        })

@@ -5,35 +5,34 @@
 ghost use Rattle.std.specs.Prelude.{◌≡◌};
 ghost use Rattle.surface.specs.Spacings.{spacings};
 ghost use Rattle.surface.specs.Refusals.{parts_verdict};
-ghost use Rattle.surface.specs.Calls.{plot_said, plot_by, parts_answer, parts_dales, parts_hills};
+ghost use Rattle.surface.specs.Refused.{outcome, IsGridOf};
+ghost use Rattle.surface.specs.Calls.{plot_by, parts_answer, parts_dales, parts_hills};
 
-use limits::{heights_verdict, spaced_verdict};
+use limits::{check_heights, spaced_grid};
 use nexts::fill_nexts;
 use paths::shorten;
-use settings::{grid_of, read_sheet};
-use surface::{Answer, DOWN, Sheet, Spacings, UP};
+use surface::{DOWN, Grid, Refusal, Spacings, UP};
 
-// What the call answers: rows 13, 14, 1, 15, 2, 3 and 4 of the table.
-fn verdict(
-    said: Sheet,
+// Rows 13, 14, 1, 15, 2, 3 and 4 of the table: the grid of what passes.
+fn parts_grid(
+    sheet: &[u8],
     rows: u32,
     columns: u32,
     spacings: Spacings,
     heights: &[i32],
     dales: &[u16],
     hills: &[u16],
-) -> Answer
-    ensures { result ≡ parts_verdict (plot_said said rows columns heights.now) spacings dales.now hills.now }
+) -> Result<Grid, Refusal>
+    ensures value { outcome result ≡ parts_verdict (plot_by sheet.now rows columns heights.now) spacings dales.now hills.now }
+    ensures grid { IsGridOf (plot_by sheet.now rows columns heights.now) result }
 {
-    let lead = spaced_verdict(said, rows, columns, spacings, heights);
-    if lead.code != 0 {
-        return lead;
-    }
+    let grid = spaced_grid(sheet, rows, columns, spacings, heights)?;
     let posts = heights.len();
     if (dales.len() != posts) | (hills.len() != posts) {
-        return Answer { code: 3, place: 0 };
+        return Err(Refusal::BadListLength);
     }
-    heights_verdict(heights)
+    check_heights(heights)?;
+    Ok(grid)
 }
 
 // Fills the lists with the names of every post's dale and hill. Refused: the lists stay as they were.
@@ -46,20 +45,15 @@ pub fn dales_and_hills(
     heights: &[i32],
     dales: &mut [u16],
     hills: &mut [u16],
-) -> Answer
-    ensures value { result ≡ parts_answer (plot_by sheet.now rows columns heights.now) (spacings east south) dales.old hills.old }
+) -> Result<(), Refusal>
+    ensures value { outcome result ≡ parts_answer (plot_by sheet.now rows columns heights.now) (spacings east south) dales.old hills.old }
     ensures dales_after { dales.new ≡ parts_dales (plot_by sheet.now rows columns heights.now) (spacings east south) dales.old hills.old }
     ensures hills_after { hills.new ≡ parts_hills (plot_by sheet.now rows columns heights.now) (spacings east south) dales.old hills.old }
 {
-    let said = read_sheet(sheet);
     let spacings = Spacings { east, south };
-    let answer = verdict(said, rows, columns, spacings, heights, dales, hills);
-    if answer.code != 0 {
-        return answer;
-    }
-    let grid = grid_of(said, rows, columns);
+    let grid = parts_grid(sheet, rows, columns, spacings, heights, dales, hills)?;
     fill_nexts(heights, grid, spacings, true, dales, hills);
     shorten(dales, grid, DOWN);
     shorten(hills, grid, UP);
-    answer
+    Ok(())
 }

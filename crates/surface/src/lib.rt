@@ -3,7 +3,7 @@
 
 ghost use Rattle.std.specs.Prelude.{◌≡◌, not, [], ◌∷◌};
 ghost use Rattle.surface.specs.Refusals.{verdict};
-ghost use Rattle.surface.specs.Refused.{refused, outcome, row_for, Ruled};
+ghost use Rattle.surface.specs.Refused.{refused, outcome, row_for, rule_number, Ruled};
 
 // The version of the library, which sn_version and the lister tell. The header has it too, and the tests hold the two to each other.
 pub const VERSION_MAJOR: u32 = 4;
@@ -46,7 +46,18 @@ pub enum Rule {
 
 pub const DEFAULT_RULE: Rule = Rule::Highest;
 
-// The rule that a byte of a sheet names.
+// Its number, and the rule that a byte of a sheet names.
+impl From<Rule> for u32 {
+    ghost from_gives = { λ rule number. number ≡ rule_number rule };
+
+    fn from(rule: Rule) -> u32 {
+        match rule {
+            Rule::Lowest => 1,
+            Rule::Highest => 2,
+        }
+    }
+}
+
 impl TryFrom<u8> for Rule {
     type Error = Refusal;
 

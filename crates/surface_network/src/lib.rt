@@ -8,6 +8,11 @@ ghost use Rattle.surface.specs.Spacings.{spacings};
 ghost use Rattle.surface.specs.Calls.{plot_by, settings_answer, settings_name, survey_answer, survey_marks, reshoot_answer, reshoot_heights, reshoot_marks, trial_answer, ring_answer, ring_list, next_down_answer, next_up_answer, thalweg_answer, thalweg_list, ridge_answer, ridge_list, parts_answer, parts_dales, parts_hills, joins_answer, joins_list, splits_list, read_answer, read_heights, write_answer, write_file};
 ghost use Rattle.surface.specs.Version.{version};
 
+mod answers;
+
+use answers::{
+    answer_of, counts_of, line_told, next_told, ring_mark_of, sheet_of, size_of, tried_of,
+};
 use surface::{
     Answer, Counts, Entries, Next, RingMark, Sheet, Size, TrialCounts, VERSION_MAJOR,
     VERSION_MINOR, VERSION_PATCH,
@@ -25,7 +30,7 @@ pub extern "C" fn sn_settings(sheet: &[u8], name: &mut [u8]) -> Sheet
     ensures value { result ≡ settings_answer sheet.now name.old }
     ensures name_after { name.new ≡ settings_name sheet.now name.old }
 {
-    settings::settings(sheet, name)
+    sheet_of(settings::settings(sheet, name))
 }
 
 #[unsafe(no_mangle)]
@@ -39,7 +44,7 @@ pub extern "C" fn sn_survey(
     ensures value { result ≡ survey_answer (plot_by sheet.now rows columns heights.now) marks.old }
     ensures marks_after { marks.new ≡ survey_marks (plot_by sheet.now rows columns heights.now) marks.old }
 {
-    survey::survey(sheet, rows, columns, heights, marks)
+    counts_of(survey::survey(sheet, rows, columns, heights, marks))
 }
 
 #[unsafe(no_mangle)]
@@ -56,7 +61,7 @@ pub extern "C" fn sn_reshoot(
     ensures heights_after { heights.new ≡ reshoot_heights (plot_by sheet.now rows columns heights.old) marks.old post height }
     ensures marks_after { marks.new ≡ reshoot_marks (plot_by sheet.now rows columns heights.old) marks.old post height }
 {
-    survey::reshoot(sheet, rows, columns, heights, marks, post, height)
+    answer_of(survey::reshoot(sheet, rows, columns, heights, marks, post, height))
 }
 
 #[unsafe(no_mangle)]
@@ -70,7 +75,7 @@ pub extern "C" fn sn_trial(
 ) -> TrialCounts
     ensures { result ≡ trial_answer (plot_by sheet.now rows columns heights.now) post height }
 {
-    trial::trial(sheet, rows, columns, heights, post, height)
+    tried_of(trial::trial(sheet, rows, columns, heights, post, height))
 }
 
 #[unsafe(no_mangle)]
@@ -85,7 +90,7 @@ pub extern "C" fn sn_ring(
     ensures value { result ≡ ring_answer (plot_by sheet.now rows columns heights.now) post ring.old }
     ensures ring_after { ring.new ≡ ring_list (plot_by sheet.now rows columns heights.now) post ring.old }
 {
-    ring::ring(sheet, rows, columns, heights, post, ring)
+    ring_mark_of(ring::ring(sheet, rows, columns, heights, post, ring))
 }
 
 #[unsafe(no_mangle)]
@@ -100,7 +105,7 @@ pub extern "C" fn sn_next_down(
 ) -> Next
     ensures { result ≡ next_down_answer (plot_by sheet.now rows columns heights.now) (spacings east south) post }
 {
-    lines::next_down(sheet, rows, columns, east, south, heights, post)
+    next_told(lines::next_down(sheet, rows, columns, east, south, heights, post))
 }
 
 #[unsafe(no_mangle)]
@@ -115,7 +120,7 @@ pub extern "C" fn sn_next_up(
 ) -> Next
     ensures { result ≡ next_up_answer (plot_by sheet.now rows columns heights.now) (spacings east south) post }
 {
-    lines::next_up(sheet, rows, columns, east, south, heights, post)
+    next_told(lines::next_up(sheet, rows, columns, east, south, heights, post))
 }
 
 #[unsafe(no_mangle)]
@@ -133,7 +138,7 @@ pub extern "C" fn sn_thalweg(
     ensures value { result ≡ thalweg_answer (plot_by sheet.now rows columns heights.now) (spacings east south) post run line.old }
     ensures line_after { line.new ≡ thalweg_list (plot_by sheet.now rows columns heights.now) (spacings east south) post run line.old }
 {
-    lines::thalweg(sheet, rows, columns, east, south, heights, post, run, line)
+    line_told(lines::thalweg(sheet, rows, columns, east, south, heights, post, run, line))
 }
 
 #[unsafe(no_mangle)]
@@ -151,7 +156,7 @@ pub extern "C" fn sn_ridge(
     ensures value { result ≡ ridge_answer (plot_by sheet.now rows columns heights.now) (spacings east south) post run line.old }
     ensures line_after { line.new ≡ ridge_list (plot_by sheet.now rows columns heights.now) (spacings east south) post run line.old }
 {
-    lines::ridge(sheet, rows, columns, east, south, heights, post, run, line)
+    line_told(lines::ridge(sheet, rows, columns, east, south, heights, post, run, line))
 }
 
 #[unsafe(no_mangle)]
@@ -169,7 +174,7 @@ pub extern "C" fn sn_dales_and_hills(
     ensures dales_after { dales.new ≡ parts_dales (plot_by sheet.now rows columns heights.now) (spacings east south) dales.old hills.old }
     ensures hills_after { hills.new ≡ parts_hills (plot_by sheet.now rows columns heights.now) (spacings east south) dales.old hills.old }
 {
-    parts::dales_and_hills(sheet, rows, columns, east, south, heights, dales, hills)
+    answer_of(parts::dales_and_hills(sheet, rows, columns, east, south, heights, dales, hills))
 }
 
 #[unsafe(no_mangle)]
@@ -185,7 +190,7 @@ pub extern "C" fn sn_joins_and_splits(
     ensures joins_after { joins.new ≡ joins_list (plot_by sheet.now rows columns heights.now) joins.old splits.old }
     ensures splits_after { splits.new ≡ splits_list (plot_by sheet.now rows columns heights.now) joins.old splits.old }
 {
-    joins::joins_and_splits(sheet, rows, columns, heights, joins, splits)
+    answer_of(joins::joins_and_splits(sheet, rows, columns, heights, joins, splits))
 }
 
 #[unsafe(no_mangle)]
@@ -193,7 +198,7 @@ pub extern "C" fn sn_read_survey(file: &[u8], heights: &mut [i32]) -> Size
     ensures value { result ≡ read_answer file.now heights.old }
     ensures heights_after { heights.new ≡ read_heights file.now heights.old }
 {
-    survey_file::read_survey(file, heights)
+    size_of(survey_file::read_survey(file, heights))
 }
 
 #[unsafe(no_mangle)]
@@ -208,5 +213,5 @@ pub extern "C" fn sn_write_survey(
     ensures value { result ≡ write_answer (plot rows columns heights.now) (spacings east south) file.old }
     ensures file_after { file.new ≡ write_file (plot rows columns heights.now) (spacings east south) file.old }
 {
-    survey_file::write_survey(rows, columns, east, south, heights, file)
+    answer_of(survey_file::write_survey(rows, columns, east, south, heights, file))
 }

@@ -2,11 +2,12 @@
 ghost use Rattle.std.specs.Prelude.{◌≡◌, ◌≤◌, length};
 ghost use Rattle.surface.specs.SurveyFile.{version_in, header_for, spacings_in};
 ghost use Rattle.surface.specs.Refusals.{verdict};
+ghost use Rattle.surface.specs.Refused.{outcome};
 ghost use Rattle.survey_file.specs.Layout.{least_size, header_rows};
 
 use crate::posts_in;
 use limits::is_spaced;
-use surface::{Answer, Spacings};
+use surface::{Refusal, Spacings};
 use words::half_at;
 
 // The versions, which are the first byte, and how many bytes each has before the heights. The first ones up to the columns are alike.
@@ -52,24 +53,24 @@ pub(crate) fn spacings_in(file: &[u8]) -> Spacings
 
 // Rows 10, 11, 10 again, 1 and 15 of the table: the version is looked at before the bytes that only some versions have. Row 1 holds exactly where the file's
 // plot can have no posts.
-pub(crate) fn header_verdict(file: &[u8]) -> Answer
-    ensures { result ≡ verdict (header_rows file.now) }
+pub(crate) fn check_header(file: &[u8]) -> Result<(), Refusal>
+    ensures { outcome result ≡ verdict (header_rows file.now) }
 {
     if file.len() < FIRST_HEADER {
-        return Answer { code: 10, place: 0 };
+        return Err(Refusal::FileTooShort);
     }
     if (file[0] != FIRST) & (file[0] != SECOND) {
-        return Answer { code: 11, place: 0 };
+        return Err(Refusal::BadVersion);
     }
     let header = header_size(file);
     if file.len() < header {
-        return Answer { code: 10, place: 0 };
+        return Err(Refusal::FileTooShort);
     }
     if posts_in(file) == 0 {
-        return Answer { code: 1, place: 0 };
+        return Err(Refusal::BadSides);
     }
     if !is_spaced(spacings_in(file)) {
-        return Answer { code: 15, place: 0 };
+        return Err(Refusal::BadSpacing);
     }
-    Answer { code: 0, place: 0 }
+    Ok(())
 }

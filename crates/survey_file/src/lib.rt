@@ -9,14 +9,16 @@ ghost use Rattle.std.specs.Prelude.{◌≡◌, ◌≤◌};
 ghost use Rattle.surface.specs.Plot.{plot, max_posts};
 ghost use Rattle.surface.specs.Spacings.{spacings};
 ghost use Rattle.surface.specs.Calls.{read_answer, read_heights, write_answer, write_file};
+ghost use Rattle.surface.specs.Refused.{outcome};
+ghost use Rattle.survey_file.specs.Told.{size_of};
 ghost use Rattle.survey_file.specs.Layout.{plot_posts};
 
 use header::{FIRST_HEADER, spacings_in};
 use limits::is_plot;
-use reading::{read_heights, read_verdict};
-use surface::{Answer, Size, Spacings};
+use reading::{check_read, read_heights};
+use surface::{Refusal, Spacings};
 use words::wide;
-use writing::{write_header, write_heights, write_verdict};
+use writing::{check_write, write_header, write_heights};
 
 // How many posts the file's plot has, 0 where it can have none.
 pub fn posts_in(file: &[u8]) -> usize
@@ -33,32 +35,26 @@ pub fn posts_in(file: &[u8]) -> usize
     0
 }
 
+// The sides and the spacings of a plot that was read.
+#[derive(Clone, Copy)]
+pub struct Read {
+    pub rows: u32,
+    pub columns: u32,
+    pub spacings: Spacings,
+}
+
 // Reads a file into the list. Refused: the list stays as it was.
-pub fn read_survey(file: &[u8], heights: &mut [i32]) -> Size
-    ensures value { result ≡ read_answer file.now heights.old }
+pub fn read_survey(file: &[u8], heights: &mut [i32]) -> Result<Read, Refusal>
+    ensures value { size_of result ≡ read_answer file.now heights.old }
     ensures heights_after { heights.new ≡ read_heights file.now heights.old }
 {
-    let verdict = read_verdict(file, heights);
-    if verdict.code != 0 {
-        return Size {
-            code: verdict.code,
-            place: verdict.place,
-            rows: 0,
-            columns: 0,
-            east: 0,
-            south: 0,
-        };
-    }
+    check_read(file, heights)?;
     read_heights(file, heights);
-    let spacings = spacings_in(file);
-    Size {
-        code: 0,
-        place: 0,
+    Ok(Read {
         rows: wide(file[5]),
         columns: wide(file[6]),
-        east: spacings.east,
-        south: spacings.south,
-    }
+        spacings: spacings_in(file),
+    })
 }
 
 // Writes heights into a list of exactly the file's size, in version 2. Refused: the list stays as it was.
@@ -69,16 +65,13 @@ pub fn write_survey(
     south: u32,
     heights: &[i32],
     file: &mut [u8],
-) -> Answer
-    ensures value { result ≡ write_answer (plot rows columns heights.now) (spacings east south) file.old }
+) -> Result<(), Refusal>
+    ensures value { outcome result ≡ write_answer (plot rows columns heights.now) (spacings east south) file.old }
     ensures file_after { file.new ≡ write_file (plot rows columns heights.now) (spacings east south) file.old }
 {
     let spacings = Spacings { east, south };
-    let verdict = write_verdict(rows, columns, spacings, heights, file);
-    if verdict.code != 0 {
-        return verdict;
-    }
+    check_write(rows, columns, spacings, heights, file)?;
     write_header(rows, columns, spacings, file);
     write_heights(heights, file);
-    verdict
+    Ok(())
 }

@@ -2,38 +2,33 @@
 ghost use Rattle.std.specs.Prelude.{◌≡◌, ◌≤◌, length};
 ghost use Rattle.surface.specs.SurveyFile.{version_in, heights_in};
 ghost use Rattle.surface.specs.Refusals.{read_verdict};
+ghost use Rattle.surface.specs.Refused.{outcome};
 ghost use Rattle.survey_file.specs.Layout.{least_size, height_at};
 
-use crate::header::{header_size, header_verdict};
+use crate::header::{check_header, header_size};
 use crate::posts_in;
-use surface::Answer;
+use surface::Refusal;
 use tenths::{first_out, round, tenths_at};
 use words::word_at;
 
-// What reading returns first: the rows of the table about what stands before the heights, then rows 12, 3 and 4.
-pub(crate) fn read_verdict(file: &[u8], heights: &[i32]) -> Answer
-    ensures { result ≡ read_verdict file.now heights.now }
+// What a read is turned away for: the rows of the table about what stands before the heights, then rows 12, 3 and 4.
+pub(crate) fn check_read(file: &[u8], heights: &[i32]) -> Result<(), Refusal>
+    ensures { outcome result ≡ read_verdict file.now heights.now }
 {
-    let header = header_verdict(file);
-    if header.code != 0 {
-        return header;
-    }
+    check_header(file)?;
     let posts = posts_in(file);
     let before = header_size(file);
     let counted = before - 5 + 4 * posts;
     let stated = word_at(file, 1) as usize;
     if (stated != file.len() - 5) | (stated != counted) {
-        return Answer { code: 12, place: 0 };
+        return Err(Refusal::BadCount);
     }
     if heights.len() != posts {
-        return Answer { code: 3, place: 0 };
+        return Err(Refusal::BadListLength);
     }
     match first_out(file, before, posts) {
-        Some(post) => Answer {
-            code: 4,
-            place: post as u32,
-        },
-        None => Answer { code: 0, place: 0 },
+        Some(post) => Err(Refusal::HeightOutOfRange(post as u32)),
+        None => Ok(()),
     }
 }
 

@@ -5,32 +5,30 @@ ghost use Rattle.surface.specs.Lists.{all};
 ghost use Rattle.surface.specs.Plot.{plot, is_height, Sides};
 ghost use Rattle.surface.specs.SurveyFile.{header_for, filed_heights};
 ghost use Rattle.surface.specs.Refusals.{write_verdict};
+ghost use Rattle.surface.specs.Refused.{outcome};
 ghost use Rattle.survey_file.specs.Layout.{written, header, height_at};
 
 use crate::header::{SECOND, SECOND_HEADER};
-use limits::{heights_verdict, spaced_plot_verdict};
-use surface::{Answer, Spacings};
+use limits::{check_heights, check_spaced};
+use surface::{Refusal, Spacings};
 use tenths::filed;
 use words::{put_half, put_word};
 
-// What writing returns: rows 1, 15, 2, 3 and 4 of the table, in that order.
-pub(crate) fn write_verdict(
+// What writing is turned away for: rows 1, 15, 2, 3 and 4 of the table, in that order.
+pub(crate) fn check_write(
     rows: u32,
     columns: u32,
     spacings: Spacings,
     heights: &[i32],
     file: &[u8],
-) -> Answer
-    ensures { result ≡ write_verdict (plot rows columns heights.now) spacings file.now }
+) -> Result<(), Refusal>
+    ensures { outcome result ≡ write_verdict (plot rows columns heights.now) spacings file.now }
 {
-    let size = spaced_plot_verdict(rows, columns, spacings, heights);
-    if size.code != 0 {
-        return size;
-    }
+    check_spaced(rows, columns, spacings, heights)?;
     if file.len() != SECOND_HEADER + 4 * heights.len() {
-        return Answer { code: 3, place: 0 };
+        return Err(Refusal::BadListLength);
     }
-    heights_verdict(heights)
+    check_heights(heights)
 }
 
 // Writes the bytes before the heights.

@@ -4,4 +4,4 @@ use Rattle.lines.proofs.next_up.Goals as goal
 
 pub returns : goal.returns
 unfolding next_up_answer
-returns c = rw (← c.read_sheet-said.ensures) c.next_post.ensures
+returns c = c.next_post.ensures

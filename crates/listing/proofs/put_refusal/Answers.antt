@@ -1,9 +1,8 @@
--- The text of a refusal, and no rows.
-use mathlib.Core.Path.{refl}
+-- The text of a refusal, and no plot.
+use mathlib.Core.Path.{refl, ap}
+use Rattle.surface.specs.declared.Answer.{Answer}
 use Rattle.text.proofs.Writing.{front}
 use Rattle.listing.proofs.put_refusal.Goals as goal
 
 pub returns : goal.returns
-returns c =
-    let f = front c.args.out.now _ _ _ c.requires c.put_refused.ensures in
-    record { room = f.2; bytes = f.0; refused = refl }
+returns c = ?

@@ -42,7 +42,7 @@ returns-in_err-check_shot-clause-value c =
     let at = goal.at.returns-in_err-check_shot-clause-value c in
     ap outcome (handed _ _ c.from_residual-in_err-check_shot.ensures.1)
     ∙ (rw (held at.Start) at c.in_err-check_shot.ensures)
-    ∙ shot-posts (asked at.In_ok-grid) _ _ (sized at.In_ok-grid).1
+    ∙ shot-posts (asked at.In_ok-grid) c.args.post c.args.height (sized at.In_ok-grid).1
     ∙ sym (check-passed (_ ∷ _ ∷ _ ∷ _ ∷ []) _ tt c.in_ok-grid.ensures.value)
 
 pub returns-clause-value : goal.returns-clause-value
@@ -50,5 +50,5 @@ unfolding trial_verdict
 returns-clause-value c =
     let at = goal.at.returns-clause-value c in
     (rw (held at.Start) at c.in_ok-check_shot.ensures)
-    ∙ shot-posts (asked at.In_ok-grid) _ _ (sized at.In_ok-grid).1
+    ∙ shot-posts (asked at.In_ok-grid) c.args.post c.args.height (sized at.In_ok-grid).1
     ∙ sym (check-passed (_ ∷ _ ∷ _ ∷ _ ∷ []) _ tt c.in_ok-grid.ensures.value)

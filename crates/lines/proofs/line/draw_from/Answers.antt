@@ -61,7 +61,7 @@ returns-then-mark_at-lt-SADDLE c =
     let k =
     no-saddle _ _ _ _ _ _ c.requires (lt-leb 3 (mark_at (plotted (goal.at.returns-then-mark_at-lt-SADDLE c).Start) c.args.p) (omega (arith, c.mark_at.ensures, c.if-mark_at-lt-SADDLE.true)))
     in
-    rw c.refused.ensures (record { value = k.0; line_after = k.1 })
+    record { value = k.0; line_after = k.1 }
 
 pub ring_at-ring-requires : goal.ring_at-ring-requires
 ring_at-ring-requires c = (post (goal.at.ring_at-ring-requires c).Start).post_of
@@ -74,7 +74,7 @@ line_start-requires c =
 pub returns-in_default : goal.returns-in_default
 returns-in_default c =
     let k = no_run _ _ _ _ _ _ c.requires (saddle (goal.at.returns-in_default c).Else-mark_at-lt-SADDLE) c.in_default.ensures in
-    rw c.refused-in_default.ensures (record { value = k.0; line_after = k.1 })
+    record { value = k.0; line_after = k.1 }
 
 pub has_room-requires : goal.has_room-requires
 has_room-requires c = (stands c, start-short (law c) (post (goal.at.has_room-requires c).Start).post_of.post (has c) (goes c))
@@ -86,7 +86,7 @@ returns-then-not-has_room c =
     too_long _ _ _ _ _ _ c.requires (saddle (goal.at.returns-then-not-has_room c).Else-mark_at-lt-SADDLE) (has branch)
     _ (goes branch) (ltb-false _ _ (sym c.has_room.ensures ∙ c.if-not-has_room.true))
     in
-    rw c.refused-then-not-has_room.ensures (record { value = k.0; line_after = k.1 })
+    record { value = k.0; line_after = k.1 }
 
 pub write_entries-count-requires : goal.write_entries-count-requires
 write_entries-count-requires c =

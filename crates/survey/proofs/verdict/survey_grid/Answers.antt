@@ -4,6 +4,7 @@ use mathlib.Core.List.{[], ◌∷◌}
 use native.Mathlib.Omega.{arith}
 use Rattle.surface.specs.Refusals.{survey_verdict}
 use Rattle.surface.specs.Refused.{outcome}
+use Rattle.surface.specs.Calls.{plot_by}
 use Rattle.surface.proofs.OfCalls.Verdicts.{code}
 use Rattle.surface.proofs.OfCalls.Outcomes.{check-refused, check-passed, handed}
 use Rattle.survey.proofs.Marked.{marked-sized}
@@ -16,7 +17,7 @@ returns-in_err-grid-clause-value c =
 
 pub check_heights-requires : goal.check_heights-requires
 check_heights-requires c =
-    let k = marked-sized _ _ (sym (code c.in_ok-grid.ensures.value)) in omega (arith, k.0, k.1)
+    let k = marked-sized (plot_by c.args.sheet.now c.args.rows c.args.columns c.args.heights.now) c.args.marks.now (sym (code c.in_ok-grid.ensures.value)) in omega (arith, k.0, k.1)
 
 pub returns-in_err-check_heights-clause-value : goal.returns-in_err-check_heights-clause-value
 unfolding survey_verdict

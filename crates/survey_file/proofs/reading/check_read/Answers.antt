@@ -15,11 +15,13 @@ use Rattle.surface.specs.Refusals.{Row, verdict, row3, row4, row12, read_verdict
 use Rattle.surface.proofs.General.Bools.{or_left, or_right}
 use Rattle.surface.proofs.OfPlots.SurveyFile.{length-tenths_of}
 use Rattle.surface.proofs.OfCalls.FileCalls.{rows_in, columns_in, posts_in, header-bounds}
+use Rattle.surface.specs.Refused.{outcome}
+use Rattle.surface.proofs.OfCalls.Outcomes.{check-refused, handed}
 use Rattle.surface.proofs.OfCalls.Verdicts.{code, passed, row-holds, row-passed, none_left, leads-refused, leads-passed}
 use Rattle.survey_file.specs.Layout.{least_size, header_rows}
 use Rattle.survey_file.proofs.Posts.{plot-posts}
-use Rattle.survey_file.proofs.reading.read_verdict.Goals as goal
-use Rattle.survey_file.proofs.reading.read_verdict.Goals.{After-first_out, After-posts_in-posts, After-word_at-stated, Else-header-ne0, Else-heights-posts, Else-stated-file}
+use Rattle.survey_file.proofs.reading.check_read.Goals as goal
+use Rattle.survey_file.proofs.reading.check_read.Goals.{After-first_out, After-posts_in-posts, After-word_at-stated, In_ok-check_header, Else-heights-posts, Else-stated-file}
 
 -- the rows that come last
 abbrev rows : List ℕ → List ℤ → List Row
@@ -27,7 +29,7 @@ rows file hs =
     row12 file (rows_in file) (columns_in file) ∷ row3 hs (posts_in file) ∷ row4 is_tenths (tenths_of file (posts_in file)) ∷ []
 
 -- the file passed those before; n of these do not hold
-module _ (c : Else-header-ne0) where
+module _ (c : In_ok-check_header) where
   abbrev F : List ℕ
   F = c.args.file.now
 
@@ -35,7 +37,7 @@ module _ (c : Else-header-ne0) where
   Passed n = let hs = c.args.heights.now in read_verdict F hs ≡ verdict (drop n (rows F hs))
 
   led : (verdict (header_rows F)).code ≡ 0
-  led = sym (code c.header_verdict-header.ensures) ∙ c.if-header-ne0.false
+  led = sym (code c.in_ok-check_header.ensures)
 
   long : least_size ≤ length F
   long = ltb-false _ _ (passed (header_rows F) tt led 10)
@@ -44,29 +46,29 @@ module _ (c : Else-header-ne0) where
   unfolding read_verdict
   passed0 = leads-passed (header_rows F) _ tt led
 
-posts : (c : After-posts_in-posts) → c.posts_in-posts.result ≡ posts_in (F (goal.at.After-posts_in-posts c).Else-header-ne0)
+posts : (c : After-posts_in-posts) → c.posts_in-posts.result ≡ posts_in (F (goal.at.After-posts_in-posts c).In_ok-check_header)
 posts c =
-    let sides = not-false _ (passed (header_rows (F (goal.at.After-posts_in-posts c).Else-header-ne0)) tt (led (goal.at.After-posts_in-posts c).Else-header-ne0) 1) in
-    c.posts_in-posts.ensures.0 ∙ sym (plot-posts (F (goal.at.After-posts_in-posts c).Else-header-ne0) _ _ refl refl sides).0
+    let sides = not-false _ (passed (header_rows (F (goal.at.After-posts_in-posts c).In_ok-check_header)) tt (led (goal.at.After-posts_in-posts c).In_ok-check_header) 1) in
+    c.posts_in-posts.ensures.0 ∙ sym (plot-posts (F (goal.at.After-posts_in-posts c).In_ok-check_header) _ _ refl refl sides).0
 
 -- row 12, as the code asks it
 module _ (c : After-word_at-stated) where
   abbrev counted : ℕ
   counted = c.header_size-before.result - 5 + 4 * c.posts_in-posts.result
 
-  count : counted ≡ count_for (version_in (F (goal.at.After-word_at-stated c).Else-header-ne0)) (rows_in (F (goal.at.After-word_at-stated c).Else-header-ne0)) (columns_in (F (goal.at.After-word_at-stated c).Else-header-ne0))
-  count = omega (arith, header-bounds (version_in (F (goal.at.After-word_at-stated c).Else-header-ne0)), c.header_size-before.ensures, posts (goal.at.After-word_at-stated c).After-posts_in-posts)
+  count : counted ≡ count_for (version_in (F (goal.at.After-word_at-stated c).In_ok-check_header)) (rows_in (F (goal.at.After-word_at-stated c).In_ok-check_header)) (columns_in (F (goal.at.After-word_at-stated c).In_ok-check_header))
+  count = omega (arith, header-bounds (version_in (F (goal.at.After-word_at-stated c).In_ok-check_header)), c.header_size-before.ensures, posts (goal.at.After-word_at-stated c).After-posts_in-posts)
 
   tested :
-      (row12 (F (goal.at.After-word_at-stated c).Else-header-ne0) (rows_in (F (goal.at.After-word_at-stated c).Else-header-ne0)) (columns_in (F (goal.at.After-word_at-stated c).Else-header-ne0))).holds
-      ≡ (not (eqb c.word_at-stated.result (length (F (goal.at.After-word_at-stated c).Else-header-ne0) - 5)) || not (eqb c.word_at-stated.result counted))
+      (row12 (F (goal.at.After-word_at-stated c).In_ok-check_header) (rows_in (F (goal.at.After-word_at-stated c).In_ok-check_header)) (columns_in (F (goal.at.After-word_at-stated c).In_ok-check_header))).holds
+      ≡ (not (eqb c.word_at-stated.result (length (F (goal.at.After-word_at-stated c).In_ok-check_header) - 5)) || not (eqb c.word_at-stated.result counted))
   unfolding stated_count
   tested = rw (← c.word_at-stated.ensures, ← count)
 
-passed1 : (c : Else-stated-file) → Passed (goal.at.Else-stated-file c).Else-header-ne0 1
-passed1 c = passed0 (goal.at.Else-stated-file c).Else-header-ne0 ∙ row-passed _ _ (tested (goal.at.Else-stated-file c).After-word_at-stated ∙ c.if-stated-file.false)
+passed1 : (c : Else-stated-file) → Passed (goal.at.Else-stated-file c).In_ok-check_header 1
+passed1 c = passed0 (goal.at.Else-stated-file c).In_ok-check_header ∙ row-passed _ _ (tested (goal.at.Else-stated-file c).After-word_at-stated ∙ c.if-stated-file.false)
 
-passed2 : (c : Else-heights-posts) → Passed (goal.at.Else-heights-posts c).Else-header-ne0 2
+passed2 : (c : Else-heights-posts) → Passed (goal.at.Else-heights-posts c).In_ok-check_header 2
 passed2 c =
     let a = c.args in
     passed1 (goal.at.Else-heights-posts c).Else-stated-file ∙ row-passed _ _ (ap not (eq-eqb (length a.heights.now) (posts_in a.file.now) (omega (arith, posts (goal.at.Else-heights-posts c).After-posts_in-posts))))
@@ -74,19 +76,18 @@ passed2 c =
 -- the first filed height that is out of range
 module _ (c : After-first_out) where
   abbrev tenths : List ℤ
-  tenths = tenths_of (F (goal.at.After-first_out c).Else-header-ne0) (posts_in (F (goal.at.After-first_out c).Else-header-ne0))
+  tenths = tenths_of (F (goal.at.After-first_out c).In_ok-check_header) (posts_in (F (goal.at.After-first_out c).In_ok-check_header))
 
   ranged : (row4 is_tenths tenths).holds ≡ ltb (first_not is_tenths tenths) c.posts_in-posts.result
-  ranged = rw (length-tenths_of (F (goal.at.After-first_out c).Else-header-ne0) (posts_in (F (goal.at.After-first_out c).Else-header-ne0)), ← posts (goal.at.After-first_out c).After-posts_in-posts)
+  ranged = rw (length-tenths_of (F (goal.at.After-first_out c).In_ok-check_header) (posts_in (F (goal.at.After-first_out c).In_ok-check_header)), ← posts (goal.at.After-first_out c).After-posts_in-posts)
 
-pub returns-then-header-ne0 : goal.returns-then-header-ne0
+pub returns-in_err-check_header : goal.returns-in_err-check_header
 unfolding read_verdict
-returns-then-header-ne0 c =
-    let h = c.header_verdict-header.ensures in
-    h ∙ sym (leads-refused (_ ∷ _ ∷ _ ∷ _ ∷ _ ∷ []) _ tt (λ z. c.if-header-ne0.true (code h ∙ z)))
+returns-in_err-check_header c =
+    ap outcome (handed _ _ c.from_residual.ensures.1) ∙ check-refused (_ ∷ _ ∷ _ ∷ _ ∷ _ ∷ []) _ tt _ c.in_err-check_header.ensures
 
 pub returns-then-stated-file : goal.returns-then-stated-file
-returns-then-stated-file c = sym (passed0 (goal.at.returns-then-stated-file c).Else-header-ne0 ∙ row-holds _ _ (tested (goal.at.returns-then-stated-file c).After-word_at-stated ∙ c.if-stated-file.true))
+returns-then-stated-file c = sym (passed0 (goal.at.returns-then-stated-file c).In_ok-check_header ∙ row-holds _ _ (tested (goal.at.returns-then-stated-file c).After-word_at-stated ∙ c.if-stated-file.true))
 
 pub returns-then-heights-posts : goal.returns-then-heights-posts
 returns-then-heights-posts c = sym (passed1 (goal.at.returns-then-heights-posts c).Else-stated-file ∙ row-holds _ _ (ap not (ne_eqb _ _ (λ z. c.if-heights-posts.true (z ∙ sym (posts (goal.at.returns-then-heights-posts c).After-posts_in-posts))))))
@@ -96,7 +97,7 @@ equal-both n a b e = (eqb-true n a (not-false _ (or_left _ _ e)), eqb-true n b (
 
 pub first_out-requires : goal.first_out-requires
 first_out-requires c =
-    let branch = (goal.at.first_out-requires c).Else-header-ne0 in
+    let branch = (goal.at.first_out-requires c).In_ok-check_header in
     let k = equal-both c.word_at-stated.result _ _ c.if-stated-file.false in
     let h = header-bounds (version_in (F branch)) in
     let l = long branch in
@@ -114,16 +115,16 @@ returns-in-None c =
     sym (passed2 (goal.at.returns-in-None c).Else-heights-posts ∙ row-passed _ _ (ranged (goal.at.returns-in-None c).After-first_out ∙ le-ltb _ _ (omega (arith, found, posts (goal.at.returns-in-None c).After-posts_in-posts))) ∙ none_left)
 
 pub header_size-before-requires : goal.header_size-before-requires
-header_size-before-requires c = long (goal.at.header_size-before-requires c).Else-header-ne0
+header_size-before-requires c = long (goal.at.header_size-before-requires c).In_ok-check_header
 
 pub overflow_sub-counted : goal.overflow_sub-counted
-overflow_sub-counted c = omega (arith, header-bounds (version_in (F (goal.at.overflow_sub-counted c).Else-header-ne0)), c.header_size-before.ensures)
+overflow_sub-counted c = omega (arith, header-bounds (version_in (F (goal.at.overflow_sub-counted c).In_ok-check_header)), c.header_size-before.ensures)
 
 pub overflow_add-counted : goal.overflow_add-counted
-overflow_add-counted c = omega (arith, header-bounds (version_in (F (goal.at.overflow_add-counted c).Else-header-ne0)), c.header_size-before.ensures)
+overflow_add-counted c = omega (arith, header-bounds (version_in (F (goal.at.overflow_add-counted c).In_ok-check_header)), c.header_size-before.ensures)
 
 pub word_at-stated-requires : goal.word_at-stated-requires
-word_at-stated-requires c = omega (arith, long (goal.at.word_at-stated-requires c).Else-header-ne0)
+word_at-stated-requires c = omega (arith, long (goal.at.word_at-stated-requires c).In_ok-check_header)
 
 pub overflow_sub-file : goal.overflow_sub-file
-overflow_sub-file c = omega (arith, long (goal.at.overflow_sub-file c).Else-header-ne0)
+overflow_sub-file c = omega (arith, long (goal.at.overflow_sub-file c).In_ok-check_header)

@@ -12,8 +12,8 @@ use Rattle.surface.specs.Refusals.{verdict, row11, row15}
 use Rattle.surface.proofs.OfCalls.Verdicts.{row-holds, row-passed, none_left}
 use Rattle.survey_file.specs.Layout.{header_rows}
 use Rattle.survey_file.proofs.Posts.{posts-plot, posts-none}
-use Rattle.survey_file.proofs.header.header_verdict.Goals as goal
-use Rattle.survey_file.proofs.header.header_verdict.Goals.{After-is_spaced, Else-file, Else-file-header, Else-file-lt-FIRST_HEADER, Else-posts_in-eq0, Start}
+use Rattle.survey_file.proofs.header.check_header.Goals as goal
+use Rattle.survey_file.proofs.header.check_header.Goals.{After-is_spaced, Else-file, Else-file-header, Else-file-lt-FIRST_HEADER, Else-posts_in-eq0, Start}
 
 neither : (a b : Bool) → not (a || b) ≡ (not a && not b)
 neither true b = refl

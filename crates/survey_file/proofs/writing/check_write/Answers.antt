@@ -9,14 +9,16 @@ use Rattle.surface.specs.Plot.{Plot, plot, posts, is_height, Sides}
 use Rattle.surface.specs.SurveyFile.{file_size}
 use Rattle.surface.specs.Refusals.{verdict, row1, row2, row3, row4, row15, write_verdict}
 use Rattle.surface.specs.declared.Spacings.{Spacings}
-use Rattle.surface.proofs.OfCalls.Verdicts.{row-holds, row-passed, leads-refused, leads-passed}
+use Rattle.surface.specs.Refused.{outcome}
+use Rattle.surface.proofs.OfCalls.Outcomes.{check-refused, handed}
+use Rattle.surface.proofs.OfCalls.Verdicts.{code, row-holds, row-passed, leads-passed}
 use Rattle.surface.proofs.OfCalls.Accepted.{plot-sized}
 use Rattle.survey_file.specs.Layout.{written, height_at}
-use Rattle.survey_file.proofs.writing.write_verdict.Goals as goal
-use Rattle.survey_file.proofs.writing.write_verdict.Goals.{Else-size-ne0}
+use Rattle.survey_file.proofs.writing.check_write.Goals as goal
+use Rattle.survey_file.proofs.writing.check_write.Goals.{In_ok-check_spaced}
 
 -- rows 1, 15 and 2 pass
-module _ (c : Else-size-ne0) where
+module _ (c : In_ok-check_spaced) where
   abbrev pl : Plot
   pl = let a = c.args in plot a.rows a.columns a.heights.now
 
@@ -24,7 +26,7 @@ module _ (c : Else-size-ne0) where
   apart = c.args.spacings
 
   led : (verdict (row1 pl.rows pl.columns ∷ row15 apart ∷ row2 pl ∷ [])).code ≡ 0
-  led = rw c.spaced_plot_verdict-size.ensures at c.if-size-ne0.false
+  led = sym (code c.in_ok-check_spaced.ensures)
 
   sized : Sides pl.rows pl.columns × (length pl.heights ≡ posts pl)
   sized = plot-sized pl apart led
@@ -38,19 +40,20 @@ module _ (c : Else-size-ne0) where
   unfolding write_verdict
   passed = leads-passed (_ ∷ _ ∷ _ ∷ []) _ tt led
 
-pub returns-then-size-ne0 : goal.returns-then-size-ne0
+pub returns-in_err-check_spaced : goal.returns-in_err-check_spaced
 unfolding write_verdict
-returns-then-size-ne0 c = let e = c.spaced_plot_verdict-size.ensures in e ∙ sym (leads-refused (_ ∷ _ ∷ _ ∷ []) _ tt (rw e at c.if-size-ne0.true))
+returns-in_err-check_spaced c =
+    ap outcome (handed _ _ c.from_residual.ensures.1) ∙ check-refused (_ ∷ _ ∷ _ ∷ []) _ tt _ c.in_err-check_spaced.ensures
 
 pub returns-then-file-heights : goal.returns-then-file-heights
 returns-then-file-heights c =
-    let branch = (goal.at.returns-then-file-heights c).Else-size-ne0 in
+    let branch = (goal.at.returns-then-file-heights c).In_ok-check_spaced in
     sym (passed branch ∙ row-holds _ _ (ap not (ne_eqb _ _ (λ e. c.if-file-heights.true (e ∙ sym (size branch))))))
 
 pub returns : goal.returns
 returns c =
-    let branch = (goal.at.returns c).Else-size-ne0 in
-    c.heights_verdict.ensures ∙ sym (passed branch ∙ row-passed _ _ (ap not (eq-eqb _ _ (c.if-file-heights.false ∙ size branch))))
+    let branch = (goal.at.returns c).In_ok-check_spaced in
+    c.check_heights.ensures ∙ sym (passed branch ∙ row-passed _ _ (ap not (eq-eqb _ _ (c.if-file-heights.false ∙ size branch))))
 
 pub overflow_mul-heights : goal.overflow_mul-heights
 overflow_mul-heights c = omega (arith, sized c)
@@ -58,5 +61,5 @@ overflow_mul-heights c = omega (arith, sized c)
 pub overflow_add-heights : goal.overflow_add-heights
 overflow_add-heights c = omega (arith, sized c)
 
-pub heights_verdict-requires : goal.heights_verdict-requires
-heights_verdict-requires c = omega (arith, sized (goal.at.heights_verdict-requires c).Else-size-ne0)
+pub check_heights-requires : goal.check_heights-requires
+check_heights-requires c = omega (arith, sized (goal.at.check_heights-requires c).In_ok-check_spaced)
