@@ -8,32 +8,10 @@ ghost use Rattle.surface.specs.Plot.{plot_of, posts, reshot, is_height, PostOf};
 ghost use Rattle.surface.specs.Marks.{marks_of};
 ghost use Rattle.surface.specs.Patterns.{pattern_at};
 ghost use Rattle.tally.specs.Tally.{Counted};
-ghost use Rattle.bands.specs.Bands.{band_first, band_end};
 
 use retally::count_redrawn;
 use surface::Grid;
 use tally::Tally;
-
-// The first of the rows round a row, an even one.
-fn first_row(row: usize) -> usize
-    ensures { result ≡ band_first row }
-{
-    if row < 2 {
-        return 0;
-    }
-    (row - 2) / 2 * 2
-}
-
-// The end of the rows round a row.
-fn end_row(rows: usize, row: usize) -> usize
-    requires { row < rows }
-    ensures { result ≡ band_end rows row }
-{
-    if rows - row < 3 {
-        return rows;
-    }
-    row + 3
-}
 
 // A count of the plot, by the one before and by those of some rows before and after.
 fn moved(all: u32, before: u32, after: u32) -> u32
@@ -57,8 +35,8 @@ pub fn recount(
 {
     let columns = grid.columns;
     let row = post / columns;
-    let first = first_row(row);
-    let end = end_row(grid.rows, row);
+    let first = row.saturating_sub(2) / 2 * 2;
+    let end = (row + 3).min(grid.rows);
     let from = first * columns;
     let to = end * columns;
     let rows = Grid {

@@ -18,14 +18,7 @@ use surface::{DOWN, Grid, Spacings, UP};
 // Half of what 64 bits hold.
 const HALF: u64 = 9223372036854775808;
 
-// x where b holds, else y. So written, the compiler makes no branch of it.
-fn pick(b: bool, x: bool, y: bool) -> bool
-    ensures { result ≡ cond b x y }
-{
-    y ^ (b & (x ^ y))
-}
-
-// The same of keys.
+// x where b holds, else y. A function, so that each of several choices in a row is one equation in the proof, not two branches.
 fn choose(b: bool, x: i32, y: i32) -> i32
     ensures { result ≡ cond b x y }
 {
@@ -36,7 +29,7 @@ fn choose(b: bool, x: i32, y: i32) -> i32
 fn is_farther(up: bool, x: i32, y: i32) -> bool
     ensures { result ≡ farther up x y }
 {
-    pick(up, y < x, x < y)
+    if up { y < x } else { x < y }
 }
 
 // The block with those corners only that have both sides of their cell below the post, or where `up` above it.
@@ -64,7 +57,7 @@ fn keep_corners(up: bool, b: Block) -> Block
 fn farther_of(up: bool, x: i32, y: i32) -> i32
     ensures { result ≡ farther_of up x y }
 {
-    choose(is_farther(up, y, x), y, x)
+    if is_farther(up, y, x) { y } else { x }
 }
 
 // The lowest key, or where `up` the highest, of a post and of two others.
