@@ -3,7 +3,7 @@
 // list.
 #![tactic(auto)]
 
-ghost use Rattle.std.specs.Prelude.{◌≡◌, cond, ◌+◌, ◌*◌, ◌≤◌, ◌<◌, length};
+ghost use Rattle.std.specs.Prelude.{◌≡◌, ◌+◌, ◌*◌, ◌≤◌, ◌<◌, length};
 ghost use Rattle.surface.specs.Lists.{list_of};
 ghost use Rattle.surface.specs.Plot.{Sides};
 ghost use Rattle.paths.specs.Paths.{follow, along, path_end, PathsEnd, Shorter, InRow, Settled};
@@ -16,18 +16,13 @@ fn end_of(list: &[u16], p: usize) -> u16
     ensures { result ≡ path_end list.now p }
 {
     let mut e = list[p];
-    let end = loop {
-        let i = e as usize;
-        if list.len() <= i {
-            break e;
+    while let Some(next) = list.get(e as usize) {
+        if *next == e {
+            break;
         }
-        let next = list[i];
-        if next == e {
-            break e;
-        }
-        e = next;
-    };
-    end
+        e = *next;
+    }
+    e
 }
 
 // Makes the end the entry of every post on the path from p.
@@ -44,20 +39,13 @@ fn shorten_path(list: &mut [u16], p: usize, end: u16)
     }
 }
 
-// x where b holds, else y.
-fn choose(b: bool, x: usize, y: usize) -> usize
-    ensures { result ≡ cond b x y }
-{
-    if b { x } else { y }
-}
-
 // The post that p's entry names, or p where it names none: its entry is what the path from p comes to in two steps.
 fn ahead(list: &[u16], p: usize) -> usize
     requires { p < length list.now }
     ensures { (result < length list.now) × (follow list.now result ≡ along list.now 2 p) }
 {
     let next = list[p] as usize;
-    choose(next < list.len(), next, p)
+    if next < list.len() { next } else { p }
 }
 
 // Makes the end of its path the entry of p. Mostly two steps lead there, and one test tells: the third does not move.
@@ -81,11 +69,9 @@ fn shorten_row(list: &mut [u16], first: usize, n: usize, back: bool)
     requires { PathsEnd list.old × (first + n ≤ length list.old) }
     ensures { Settled list.old list.new (InRow first n) }
 {
-    let mut i = 0;
-    while i < n {
-        let p = first + choose(back, n - 1 - i, i);
-        settle(list, p);
-        i += 1;
+    for turn in 0..n {
+        let i = if back { n - 1 - turn } else { turn };
+        settle(list, first + i);
     }
 }
 
@@ -97,10 +83,8 @@ pub fn shorten(list: &mut [u16], grid: Grid, up: bool)
 {
     let rows = grid.rows;
     let columns = grid.columns;
-    let mut i = 0;
-    while i < rows {
-        let r = choose(up, rows - 1 - i, i);
+    for turn in 0..rows {
+        let r = if up { rows - 1 - turn } else { turn };
         shorten_row(list, r * columns, columns, (r % 2 == 1) ^ up);
-        i += 1;
     }
 }

@@ -11,7 +11,7 @@ use changes::change_table;
 use saddle_order::sort_saddles;
 use starts::{fill_leads, start_table};
 use surface::{Grid, MAX_POSTS};
-use sweep::{clear, sweep};
+use sweep::sweep;
 
 // The splits of every post, by the patterns of the plot; the other lists are for the work. Ground without a saddle, as level ground is, is told at once.
 fn sort_and_sweep(
@@ -36,7 +36,7 @@ fn sort_and_sweep(
         leads,
         sorted,
     );
-    clear(splits);
+    splits.fill(0);
     if m == 0 {
         return;
     }

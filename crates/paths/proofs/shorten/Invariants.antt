@@ -1,5 +1,5 @@
 -- The loop's invariant: the posts of the rows met are settled.
-use Prim.Native.Nat.{ℕ, ◌-◌, ◌*◌, ◌≤◌}
+use Prim.Native.Nat.{ℕ, ◌*◌}
 use mathlib.Core.Bool.{Bool}
 use Rattle.paths.specs.Paths.{InRow, Settled}
 use Rattle.paths.proofs.Turns.{met, Before}
@@ -9,8 +9,5 @@ use Rattle.paths.proofs.shorten.Given as goal
 abbrev pub RowOf : ℕ → ℕ → Bool → ℕ → ℕ → Type 0
 RowOf rows columns up j = InRow (met up rows j * columns) columns
 
-abbrev pub invariant-loop-i : goal.invariant-loop-i
-invariant-loop-i l = (l.i ≤ l.rows) × Settled l.initial.list l.list (Before l.i (RowOf l.rows l.columns l.up))
-
-abbrev pub decreases-loop-i : goal.decreases-loop-i
-decreases-loop-i l = l.rows - l.i
+abbrev pub invariant-loop-turn : goal.invariant-loop-turn
+invariant-loop-turn l = Settled l.fn.list l.list (Before l.turn (RowOf l.rows l.columns l.up))

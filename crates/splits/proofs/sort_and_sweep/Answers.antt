@@ -5,22 +5,18 @@ use mathlib.Core.Path.{◌≡◌, sym, ◌∙◌, ap}
 use lib.ListN.{length}
 use Rattle.surface.specs.Lists.{list_of}
 use Rattle.surface.proofs.General.ListOf.{length-list_of}
+use Rattle.surface.proofs.General.Slices.{fill-all}
 use Rattle.sweep.proofs.Sweeping.{lead-inside, leads-are, swept_none}
 use Rattle.splits.proofs.sort_and_sweep.Goals as goal
-use Rattle.splits.proofs.sort_and_sweep.Goals.{After-clear}
+use Rattle.splits.proofs.sort_and_sweep.Goals.{After-fill}
 
 -- all splits are 0 at first
-cleared : (k : After-clear) → let a = k.args in k.clear.new.list ≡ list_of (λ _. 0) (a.grid.rows * a.grid.columns)
-cleared k = k.clear.ensures ∙ ap (list_of (λ _. 0)) k.requires.valid.2
-
-pub sort_saddles-m-requires : goal.sort_saddles-m-requires
-sort_saddles-m-requires c =
-    let p = c.requires in
-    record { valid = p.valid.0; patterns_value = (p.valid.1, c.change_table.ensures); digits_len = p.digits_len }
+cleared : (k : After-fill) → let a = k.args in k.fill.new.self ≡ list_of (λ _. 0) (a.grid.rows * a.grid.columns)
+cleared k = fill-all k.args.splits.now k.fill.new.self 0 (k.fill.ensures.after (λ y e. e)) ∙ ap (list_of (λ _. 0)) k.requires.valid.2
 
 pub returns-then-m-eq0 : goal.returns-then-m-eq0
 returns-then-m-eq0 c =
-    swept_none _ c.requires.valid.0 c.if-m-eq0.true c.sort_saddles-m.ensures (cleared (goal.at.returns-then-m-eq0 c).After-clear)
+    swept_none _ c.requires.valid.0 c.if-m-eq0.true c.sort_saddles-m.ensures (cleared (goal.at.returns-then-m-eq0 c).After-fill)
 
 pub fill_leads-requires : goal.fill_leads-requires
 fill_leads-requires c =
@@ -39,8 +35,5 @@ sweep-requires c =
       ascending = c.sort_saddles-m.ensures;
       tabled = c.start_table-table.ensures;
       led = c.fill_leads.ensures ∙ leads-are _ v e;
-      cleared = cleared (goal.at.sweep-requires c).After-clear;
+      cleared = cleared (goal.at.sweep-requires c).After-fill;
     }
-
-pub returns : goal.returns
-returns c = c.sweep.ensures

@@ -9,23 +9,17 @@ use Rattle.sweep.proofs.Sweeping.{Swept, swept-first, swept-next, swept-last, sa
 use Rattle.sweep.proofs.sweep.Goals as goal
 use Rattle.sweep.proofs.sweep.Goals.{At-loop-i, In-loop-i}
 
-pub step_list-steps-requires : goal.step_list-steps-requires
-step_list-steps-requires c = c.requires.valid.sides.narrow
-
 pub loop-i-init : goal.loop-i-init
-loop-i-init c = let f = c.requires in (omega arith, λ v. swept-first _ v _ _ _ _ f.ascending f.led f.cleared)
+loop-i-init c = let f = c.requires in λ v. swept-first _ v _ _ _ _ f.ascending f.led f.cleared
 
 abbrev swept : (a : At-loop-i) → Swept (plot_of a.args.grid a.args.heights.now) a.requires.valid a.args.sorted.now a.loop-i.i a.loop-i.leads a.loop-i.splits
-swept a = a.loop-i.invariant.1 a.requires.valid
+swept a = a.loop-i.invariant a.requires.valid
 
 -- the next saddle is a post
 saddle : (c : In-loop-i) → (c.loop-i.i - 1 < c.args.m) × (get_or c.args.sorted.now (c.loop-i.i - 1) 0 < c.args.grid.rows * c.args.grid.columns)
 saddle c =
     let h : c.loop-i.i - 1 < c.args.m = omega arith in
     (h, c.requires.ascending.post (c.loop-i.i - 1) h)
-
-pub bounds-sorted-i : goal.bounds-sorted-i
-bounds-sorted-i c = let f = c.requires.ascending in omega (arith, (saddle (goal.at.bounds-sorted-i c).In-loop-i).0, f.size, f.few)
 
 pub bounds-patterns-p : goal.bounds-patterns-p
 bounds-patterns-p c =
@@ -44,7 +38,7 @@ pub loop-i-preserved : goal.loop-i-preserved
 loop-i-preserved c =
     let t = c.take_saddle.ensures in
     let e : c.loop-i.i ≡ suc (c.loop-i.i - 1) = omega arith in
-    (omega arith, λ v. swept-next _ v c.requires.ascending (rw e at (c.loop-i.invariant.1 v)) (saddle (goal.at.loop-i-preserved c).In-loop-i).0 t.0 _ t.1)
+    λ v. swept-next _ v c.requires.ascending (rw e at (c.loop-i.invariant v)) (saddle (goal.at.loop-i-preserved c).In-loop-i).0 t.0 _ t.1
 
 pub returns : goal.returns
 returns c = swept-last _ c.requires.valid (omega arith) (swept (goal.at.returns c).At-loop-i)

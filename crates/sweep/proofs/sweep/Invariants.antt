@@ -1,11 +1,7 @@
 -- The loop's invariant: all but i saddles were taken.
-use Prim.Native.Nat.{◌≤◌}
 use Rattle.surface.specs.Plot.{plot_of, Valid}
 use Rattle.sweep.proofs.Sweeping.{Swept}
 use Rattle.sweep.proofs.sweep.Given as goal
 
 abbrev pub invariant-loop-i : goal.invariant-loop-i
-invariant-loop-i l = (l.i ≤ l.m) × ((v : Valid (plot_of l.grid l.heights)) → Swept (plot_of l.grid l.heights) v l.sorted l.i l.leads l.splits)
-
-abbrev pub decreases-loop-i : goal.decreases-loop-i
-decreases-loop-i l = l.i
+invariant-loop-i l = (v : Valid (plot_of l.grid l.heights)) → Swept (plot_of l.grid l.heights) v l.sorted l.i l.leads l.splits
