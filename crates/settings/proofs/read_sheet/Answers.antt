@@ -6,6 +6,3 @@ use Rattle.settings.proofs.read_sheet.Goals as goal
 
 pub returns-then-sheet-eq0 : goal.returns-then-sheet-eq0
 returns-then-sheet-eq0 c = sym (says-empty c.args.sheet.now (omega arith))
-
-pub returns : goal.returns
-returns c = c.read_bytes.ensures

@@ -43,6 +43,3 @@ returns c =
     let after = (goal.at.returns c).After-byte_at-3 in
     c.refused.ensures
     ∙ sym (rule-refused (S after) 5 (there after) c.requires (kind after) _ _ c.byte_at-3.ensures (rule after) c.if-byte_at-rule.false)
-
-pub read_name-requires : goal.read_name-requires
-read_name-requires c = c.requires

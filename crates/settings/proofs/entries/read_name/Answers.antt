@@ -18,10 +18,3 @@ returns-then-is_name c =
     let h = c.if-sheet-at.false in
     let e : are_entries 1 (entries_from S at) ≡ true = sym c.is_name.ensures ∙ c.if-is_name.true in
     rw (e, name-value S at h c.requires e, value-size S at h c.requires, c.wide.ensures.0, c.byte_at.ensures)
-
-pub returns : goal.returns
-returns c =
-    rw (← c.is_name.ensures, c.if-is_name.false) c.refused.ensures
-
-pub is_name-requires : goal.is_name-requires
-is_name-requires c = (c.requires, c.if-sheet-at.false)

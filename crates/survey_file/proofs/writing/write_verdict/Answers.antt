@@ -52,11 +52,5 @@ returns c =
     let branch = (goal.at.returns c).Else-size-ne0 in
     c.heights_verdict.ensures ∙ sym (passed branch ∙ row-passed _ _ (ap not (eq-eqb _ _ (c.if-file-heights.false ∙ size branch))))
 
-pub overflow_mul-heights : goal.overflow_mul-heights
-overflow_mul-heights c = omega (arith, sized c)
-
-pub overflow_add-heights : goal.overflow_add-heights
-overflow_add-heights c = omega (arith, sized c)
-
 pub heights_verdict-requires : goal.heights_verdict-requires
 heights_verdict-requires c = omega (arith, sized (goal.at.heights_verdict-requires c).Else-size-ne0)
