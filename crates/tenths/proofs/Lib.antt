@@ -1,3 +1,2 @@
--- Laws on plain numbers and lists, for the proofs of this crate.
-mod Found
+-- Laws on plain numbers, for the proofs of this crate.
 mod Numbers

@@ -1,3 +1,2 @@
--- Laws on plain lists and numbers, for the proofs of this crate.
+-- Laws on plain numbers, for the proofs of this crate.
 mod Bits
-mod Parts

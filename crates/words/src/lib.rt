@@ -21,12 +21,16 @@ pub fn word_at(file: &[u8], i: usize) -> u32
     u32::from_be_bytes([file[i], file[i + 1], file[i + 2], file[i + 3]])
 }
 
-// Puts the number n at byte i.
+// Puts the number n at byte i. Four stores: of one copy the compiler makes vector code in the loop over heights, which is slower (1.06 ns a post, not 0.83).
 pub fn put_word(file: &mut [u8], i: usize, n: u32)
     requires { i + 4 ≤ length file.old }
     ensures { file.new ≡ sets file.old i (bytes_of n) }
 {
-    file[i..i + 4].copy_from_slice(&n.to_be_bytes());
+    let [a, b, c, d] = n.to_be_bytes();
+    file[i] = a;
+    file[i + 1] = b;
+    file[i + 2] = c;
+    file[i + 3] = d;
 }
 
 // The 16-bit number at byte i.
@@ -42,7 +46,9 @@ pub fn put_half(file: &mut [u8], i: usize, n: u32)
     requires { i + 2 ≤ length file.old }
     ensures { file.new ≡ sets file.old i (half_bytes n) }
 {
-    file[i..i + 2].copy_from_slice(&n.to_be_bytes()[2..]);
+    let [_, _, a, b] = n.to_be_bytes();
+    file[i] = a;
+    file[i + 1] = b;
 }
 
 // A 32-bit number read as signed.

@@ -13,9 +13,3 @@ returns-then-is_plot c =
 pub returns : goal.returns
 returns c =
     (no-posts _ _ _ c.wide-rows.ensures.0 c.wide-columns.ensures.0 (sym c.is_plot.ensures ∙ c.if-is_plot.false), omega arith)
-
-pub overflow_mul-result : goal.overflow_mul-result
-overflow_mul-result c = omega (arith, (returns-then-is_plot c).1)
-
-pub overflow_cast-result : goal.overflow_cast-result
-overflow_cast-result c = omega (arith, (returns-then-is_plot c).1)

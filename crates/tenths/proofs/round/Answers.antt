@@ -35,20 +35,12 @@ module _ (c : Start) where
   bits-rest : (k : ℕ) → to_z w32 (of_z w32 (rest t k)) ≡ rest t k
   bits-rest k = to_z-of_z (rest-fits t k c.ranges.t)
 
-pub overflow_add-t : goal.overflow_add-t
-overflow_add-t c = rw (bits-t c, bits-whole c, bits-part c, bits-odd c) (rest-fits (t c) _ c.ranges.t)
-
 module _ (c : After-step) where
   stepped : c.step.result ≡ step_from (rest (t (goal.at.After-step c).Start) 2)
   stepped = rw (bits-t (goal.at.After-step c).Start, bits-whole (goal.at.After-step c).Start, bits-part (goal.at.After-step c).Start, bits-odd (goal.at.After-step c).Start, bits-rest (goal.at.After-step c).Start) at c.step.ensures
 
   bits-step : to_z w32 (of_z w32 c.step.result) ≡ step_from (rest (t (goal.at.After-step c).Start) 2)
   bits-step = let r : to_z w32 (of_z w32 c.step.result) ≡ c.step.result = search rules in r ∙ stepped
-
-pub overflow_add-result : goal.overflow_add-result
-overflow_add-result c =
-    let start = (goal.at.overflow_add-result c).Start in
-    rw (bits-t start, bits-whole start, bits-step c, rounded-is (t start)) (rounded-fits (t start) c.ranges.t)
 
 pub returns : goal.returns
 returns c =

@@ -84,6 +84,3 @@ returns c =
     let here = (goal.at.returns c).In_ok-rule in
     c.read_name-2.ensures
     ∙ sym (rule-said c.args.sheet.now 5 (there (before (after here))) c.requires (kind (before (after here))) _ _ c.byte_at-2.ensures (rule here) (ruled here))
-
-pub read_name-requires : goal.read_name-requires
-read_name-requires c = c.requires

@@ -1,6 +1,6 @@
 use Prim.Native.Nat.{ℕ, ◌+◌, ◌-◌, ◌≤◌}
 use native.Mathlib.Omega.{arith}
-use mathlib.Core.Path.{◌≡◌, refl, sym, ◌∙◌}
+use mathlib.Core.Path.{◌≡◌, sym, ◌∙◌}
 use borrow.Author.Tests.{eqb-true, eqb-false, eq-eqb, ne_eqb}
 use lib.Dec.{eqb}
 use lib.ListN.{length}
@@ -27,6 +27,3 @@ returns c =
     let s = c.args.sheet.now in
     let e : c.loop-at.at ≡ 5 + extent (entries_from s 5) = omega (arith, extent-end s c.loop-at.at c.loop-at-test.false) in
     rw e (shifted 5 (extent (entries_from s 5)) (length s) (omega arith))
-
-pub loop-at-init : goal.loop-at-init
-loop-at-init c = refl

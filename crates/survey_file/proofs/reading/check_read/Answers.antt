@@ -2,17 +2,16 @@
 -- table is the first that holds.
 use Prim.Native.Nat.{ℕ, ◌+◌, ◌-◌, ◌*◌, ◌≤◌}
 use mathlib.Core.Path.{◌≡◌, refl, sym, ◌∙◌, ap}
-use mathlib.Core.Bool.{false, not, ◌||◌}
+use mathlib.Core.Bool.{not, ◌||◌}
 use mathlib.Core.List.{List, [], ◌∷◌}
 use native.Mathlib.Omega.{arith}
-use borrow.Author.Tests.{not-false, eqb-true, eq-eqb, ne_eqb, ltb-false, lt-ltb, le-ltb}
+use borrow.Author.Tests.{not-false, eq-eqb, ne_eqb, ltb-false, lt-ltb, le-ltb}
 use lib.Dec.{ltb, eqb}
 use lib.IntN.{ℤ}
 use lib.ListN.{length, drop}
 use Rattle.surface.specs.Lists.{first_not}
 use Rattle.surface.specs.SurveyFile.{version_in, stated_count, count_for, tenths_of, is_tenths}
 use Rattle.surface.specs.Refusals.{Row, verdict, row3, row4, row12, read_verdict}
-use Rattle.surface.proofs.General.Bools.{or_left, or_right}
 use Rattle.surface.proofs.OfPlots.SurveyFile.{length-tenths_of}
 use Rattle.surface.proofs.OfCalls.FileCalls.{rows_in, columns_in, posts_in, header-bounds}
 use Rattle.surface.specs.Refused.{outcome}
@@ -92,17 +91,6 @@ returns-then-stated-file c = sym (passed0 (goal.at.returns-then-stated-file c).I
 pub returns-then-heights-posts : goal.returns-then-heights-posts
 returns-then-heights-posts c = sym (passed1 (goal.at.returns-then-heights-posts c).Else-stated-file ∙ row-holds _ _ (ap not (ne_eqb _ _ (λ z. c.if-heights-posts.true (z ∙ sym (posts (goal.at.returns-then-heights-posts c).After-posts_in-posts))))))
 
-equal-both : (n a b : ℕ) → not (eqb n a) || not (eqb n b) ≡ false → (n ≡ a) × (n ≡ b)
-equal-both n a b e = (eqb-true n a (not-false _ (or_left _ _ e)), eqb-true n b (not-false _ (or_right (not (eqb n a)) _ e)))
-
-pub first_out-requires : goal.first_out-requires
-first_out-requires c =
-    let branch = (goal.at.first_out-requires c).In_ok-check_header in
-    let k = equal-both c.word_at-stated.result _ _ c.if-stated-file.false in
-    let h = header-bounds (version_in (F branch)) in
-    let l = long branch in
-    (c.header_size-before.ensures, omega (arith, h, l, k.0, k.1, c.header_size-before.ensures))
-
 pub returns-in-Some : goal.returns-in-Some
 returns-in-Some c =
     let after = (goal.at.returns-in-Some c).After-first_out in
@@ -116,12 +104,6 @@ returns-in-None c =
 
 pub header_size-before-requires : goal.header_size-before-requires
 header_size-before-requires c = long (goal.at.header_size-before-requires c).In_ok-check_header
-
-pub overflow_sub-counted : goal.overflow_sub-counted
-overflow_sub-counted c = omega (arith, header-bounds (version_in (F (goal.at.overflow_sub-counted c).In_ok-check_header)), c.header_size-before.ensures)
-
-pub overflow_add-counted : goal.overflow_add-counted
-overflow_add-counted c = omega (arith, header-bounds (version_in (F (goal.at.overflow_add-counted c).In_ok-check_header)), c.header_size-before.ensures)
 
 pub word_at-stated-requires : goal.word_at-stated-requires
 word_at-stated-requires c = omega (arith, long (goal.at.word_at-stated-requires c).In_ok-check_header)

@@ -55,11 +55,5 @@ returns c =
     let branch = (goal.at.returns c).In_ok-check_spaced in
     c.check_heights.ensures ∙ sym (passed branch ∙ row-passed _ _ (ap not (eq-eqb _ _ (c.if-file-heights.false ∙ size branch))))
 
-pub overflow_mul-heights : goal.overflow_mul-heights
-overflow_mul-heights c = omega (arith, sized c)
-
-pub overflow_add-heights : goal.overflow_add-heights
-overflow_add-heights c = omega (arith, sized c)
-
 pub check_heights-requires : goal.check_heights-requires
 check_heights-requires c = omega (arith, sized (goal.at.check_heights-requires c).In_ok-check_spaced)

@@ -4,8 +4,7 @@ use mathlib.Core.List.{List}
 use native.Mathlib.Omega.{arith}
 use borrow.Author.Rules.{rules}
 use lib.IntN.{ℤ, pos}
-use lib.ListN.{length, get_or}
-use lib.Seq.{take-length}
+use lib.ListN.{get_or}
 use mir.Syntax.{w32}
 use mir.Val.{to_z, of_z}
 use Rattle.surface.specs.Plot.{is_height}
@@ -43,9 +42,3 @@ loop-i-preserved c =
     let bits : to_z w32 (of_z w32 (h head)) ≡ h head = search rules in
     let n = rw bits at c.filed.ensures in
     rw (c.put_word.ensures, c.loop-i.invariant) (filed-more (H head) (F₀ head) c.loop-i.i _ (omega arith) n)
-
-pub returns : goal.returns
-returns c =
-    let head = (goal.at.returns c).At-loop-i in
-    let end : c.loop-i.i ≡ length (H head) = omega arith in
-    rw (c.loop-i.invariant, end, take-length (H head))
