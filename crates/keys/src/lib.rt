@@ -79,7 +79,8 @@ pub fn block_at(heights: &[i32], grid: Grid, p: usize, at: Borders, odd: bool) -
     }
 }
 
-// The keys round p, which stands on no border: nothing to choose, so that a walk, which waits for each key, is the quicker.
+// The keys round p, which stands on no border: nothing to choose, so that a walk, which waits for each key, is the quicker. (As a call of `block_at` with
+// constant borders it is not inlined into the step.)
 pub fn block_inside(heights: &[i32], grid: Grid, p: usize, odd: bool) -> Block
     requires { PostOf (plot_of grid heights.now) p × (is_border grid.rows grid.columns p ≡ false) × (odd ≡ is_odd (row grid.columns p)) }
     ensures { result ≡ block_of (key_of (plot_of grid heights.now) p) grid.columns p inside }
