@@ -58,7 +58,8 @@ pub fn upper_row(
     }
 }
 
-// Both, by a call for each rule, so that the compiler makes loops for each.
+// Both, by a call for each rule, so that the compiler makes loops for each. They are two functions, since they read other flags in other pairs, and one loop
+// that reads three neighbouring places of a row is no vector code.
 pub fn pattern_row(
     upper: &mut [u8],
     side: &[bool],

@@ -79,18 +79,23 @@ pub fn block_at(heights: &[i32], grid: Grid, p: usize, at: Borders, odd: bool) -
     }
 }
 
-// The keys round p, which stands on no border. With the borders constant there is nothing to choose, so that a walk, which waits for each key, is the quicker.
+// The keys round p, which stands on no border: nothing to choose, so that a walk, which waits for each key, is the quicker. (As a call of `block_at` with
+// constant borders it is not inlined into the step.)
 pub fn block_inside(heights: &[i32], grid: Grid, p: usize, odd: bool) -> Block
     requires { PostOf (plot_of grid heights.now) p × (is_border grid.rows grid.columns p ≡ false) × (odd ≡ is_odd (row grid.columns p)) }
     ensures { result ≡ block_of (key_of (plot_of grid heights.now) p) grid.columns p inside }
 {
-    let none = Borders {
-        top: false,
-        bottom: false,
-        left: false,
-        right: false,
-    };
-    block_at(heights, grid, p, none, odd)
+    Block {
+        post: key_at(heights, grid, p, odd, 1, 1),
+        n: key_at(heights, grid, p, odd, 0, 1),
+        ne: key_at(heights, grid, p, odd, 0, 2),
+        e: key_at(heights, grid, p, odd, 1, 2),
+        se: key_at(heights, grid, p, odd, 2, 2),
+        s: key_at(heights, grid, p, odd, 2, 1),
+        sw: key_at(heights, grid, p, odd, 2, 0),
+        w: key_at(heights, grid, p, odd, 1, 0),
+        nw: key_at(heights, grid, p, odd, 0, 0),
+    }
 }
 
 // The post that has key k among those round p. A key counted from the lowest is not negative, and has the same last eight binary digits.

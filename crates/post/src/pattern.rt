@@ -52,7 +52,8 @@ fn back(
     true
 }
 
-// Post p is below the one d numbers before it, `tie` telling whether it is where their heights are equal; true where p is not there.
+// Post p is below the one d numbers before it, `tie` telling whether it is where their heights are equal; true where p is not there. (One function for this
+// and `back` would need the direction as one argument more, and one test more.)
 fn ahead(heights: &[i32], grid: Grid, p: usize, d: usize, tie: bool, there: bool) -> bool
     requires { Valid (plot_of grid heights.now) × (there ≡ true → (p < posts (plot_of grid heights.now)) × (d ≤ p) × (tie ≡ driven_before grid.columns p (p - d))) }
     ensures { result ≡ cond there (below (plot_of grid heights.now) p (p - d)) true }

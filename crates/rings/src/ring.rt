@@ -9,7 +9,7 @@ use crate::border::{Borders, borders_of};
 use crate::corner::{Corners, corners_of};
 use surface::{Grid, VIRTUAL_PIT};
 
-// The first `len` of the members are the ring's.
+// The first `len` of the members are the ring's. (An array, since this library has no heap.)
 #[derive(Clone, Copy)]
 pub struct Ring {
     pub members: [usize; 8],
