@@ -1,2 +1,3 @@
--- Laws on plain numbers, for the proofs of this crate.
+-- Laws on plain numbers and lists, for the proofs of this crate.
+mod Found
 mod Numbers

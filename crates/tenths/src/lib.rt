@@ -60,12 +60,7 @@ pub fn first_out(file: &[u8], header: usize, n: usize) -> Option<usize>
     requires { (header ≡ header_for (version_in file.now)) × (header + 4 * n ≤ length file.now) }
     ensures { let first = first_not is_tenths (tenths_of file.now n) in MatchOption result (first ≡ n) (λ i. (first ≡ i) × (i < n)) }
 {
-    for i in 0..n {
-        if !is_tenths(tenths_at(file, header + 4 * i)) {
-            return Some(i);
-        }
-    }
-    None
+    (0..n).position(|i| !is_tenths(tenths_at(file, header + 4 * i)))
 }
 
 // A height in range as it is filed: ten times as many tenths, as 32 bits.
