@@ -186,8 +186,11 @@ pub fn later_row(
         later_each(heights, grid, p, q, tie, flags, at, n);
         return;
     }
-    for i in (0..n - BLOCK).step_by(BLOCK) {
+    // (by `while`: with `for i in (0..n - BLOCK).step_by(BLOCK)` the callers are no longer inlined, and a survey takes 5 % more instructions)
+    let mut i = 0;
+    while i + BLOCK < n {
         later_flags(heights, grid, p + i, q + i, tie, flags, at + i);
+        i += BLOCK;
     }
     // the last block ends where the row does, and may store some flags again
     let last = n - BLOCK;

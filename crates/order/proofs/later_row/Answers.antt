@@ -3,12 +3,11 @@ use native.Mathlib.Omega.{arith}
 use mathlib.Core.Path.{◌≡◌, refl, ◌∙◌}
 use mathlib.Core.Bool.{Bool, false}
 use mathlib.Core.List.{List}
-use lib.ListN.{length}
+use borrow.Author.Rules.{rules}
 use Rattle.surface.specs.Lists.{stores}
 use Rattle.surface.specs.Plot.{Plot, below}
 use Rattle.surface.proofs.General.Stores.{stores-join, stores-over, stores_same}
 use Rattle.order.specs.Ties.{Drives}
-use Rattle.order.proofs.later_row.Goals.{else-loop-i-test, then-loop-i-test+else-i-end-i-gt16}
 use Rattle.order.proofs.later_row.Goals as goal
 
 -- the flags of a block are a part of the row's
@@ -38,36 +37,25 @@ returns-then-n-lt-BLOCK c = c.later_each.ensures
 
 pub loop-i-init : goal.loop-i-init
 unfolding stores
-loop-i-init c = (omega arith, refl)
+loop-i-init c = (omega arith, refl, refl)
 
 pub later_flags-requires : goal.later_flags-requires
-later_flags-requires c = let pre = c.requires in (pre.0, omega (arith, pre), omega (arith, pre), drives-part pre.3 _ 16 (omega arith), omega (arith, pre))
+later_flags-requires c = let pre = c.requires in (pre.0, omega (arith, pre), omega (arith, pre), drives-part pre.3 _ 16 (omega arith), omega (arith, pre, c.loop-i.invariant.1))
 
 pub loop-i-preserved : goal.loop-i-preserved
 loop-i-preserved c =
     let l = c.loop-i in
     let a = c.args in
     let new = c.later_flags.ensures ∙ part _ a.p a.q a.at l.i l.flags in
-    (omega arith, stores-join _ a.at l.i (a.at + l.i) 16 (l.i + 16) a.flags.now l.flags _ l.invariant.1 new refl refl)
+    (omega arith, search rules, stores-join _ a.at l.i (a.at + l.i) 16 (l.i + 16) a.flags.now l.flags _ l.invariant.2 new refl refl)
 
 pub later_flags-requires-2 : goal.later_flags-requires-2
-later_flags-requires-2 c = let pre = c.requires in (pre.0, omega (arith, pre), omega (arith, pre), drives-part pre.3 _ 16 (omega arith), omega (arith, pre))
-
--- the flags that the loop stored, m of them, with the last block over their end
-ended : (f : ℕ → Bool) (at n m : ℕ) (l l₁ l₂ : List Bool) → l₁ ≡ stores f at m l → l₂ ≡ stores f (at + (n - 16)) 16 l₁ → 16 ≤ n → n ≤ m + 16 → m ≤ n
-    → at + n ≤ length l → l₂ ≡ stores f at n l
-ended f at n m l l₁ l₂ e₁ e₂ h a b r =
-    stores-over f at m (at + (n - 16)) 16 n l l₁ l₂ false e₁ e₂ (omega arith) (omega arith) (omega arith) (omega arith) (omega arith)
+later_flags-requires-2 c = let pre = c.requires in (pre.0, omega (arith, pre), omega (arith, pre), drives-part pre.3 _ 16 (omega arith), omega (arith, pre, c.loop-i.invariant.1))
 
 pub returns : goal.returns
 returns c =
     let l = c.loop-i in
     let a = c.args in
-    let new = c.later_flags-2.ensures ∙ part _ a.p a.q a.at (a.n - 16) c.loop-i-test.flags in
-    elim c.loop-i-test.branch [
-      | else-loop-i-test w ↦ ended _ a.at a.n l.i a.flags.now _ _ (w.flags-is ∙ l.invariant.1) new (omega arith) (omega arith) (omega arith) (omega arith)
-      | then-loop-i-test+else-i-end-i-gt16 w ↦
-          let block = w.flags-is ∙ w.later_flags.ensures ∙ part _ a.p a.q a.at l.i l.flags in
-          let stored = stores-join _ a.at l.i (a.at + l.i) 16 (l.i + 16) a.flags.now l.flags _ l.invariant.1 block refl refl in
-          ended _ a.at a.n (l.i + 16) a.flags.now _ _ stored new (omega arith) (omega arith) (omega arith) (omega arith)
-    ]
+    let last = a.n - 16 in
+    let new = c.later_flags-2.ensures ∙ part _ a.p a.q a.at last l.flags in
+    stores-over _ a.at l.i (a.at + last) 16 a.n a.flags.now l.flags _ false l.invariant.2 new (omega arith) (omega arith) (omega arith) (omega arith) (omega arith)

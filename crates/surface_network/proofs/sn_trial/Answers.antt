@@ -1,5 +1,5 @@
 -- The height that was handed on is the one that was lent.
-use mathlib.Core.Path.{◌≡◌}
+use mathlib.Core.Path.{◌≡◌, ◌∙◌}
 use mir.Syntax.{w32}
 use mir.Val.{to_z, of_z}
 use borrow.Author.Rules.{rules}
@@ -8,4 +8,4 @@ use Rattle.surface_network.proofs.sn_trial.Goals as goal
 pub returns : goal.returns
 returns c =
     let r : to_z w32 (of_z w32 c.args.height) ≡ c.args.height = search rules in
-    rw r at c.trial.ensures
+    c.tried_of.ensures ∙ (rw r at c.trial.ensures)
