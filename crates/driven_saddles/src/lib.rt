@@ -36,6 +36,7 @@ fn collect_row(
     let first = r * columns;
     let back = r % 2 == 1;
     let mut m = found;
+    // (one loop for both ways: `0..columns` and its reverse are two types)
     for turn in 0..columns {
         let column = if back { columns - 1 - turn } else { turn };
         let p = first + column;

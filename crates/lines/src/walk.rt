@@ -53,6 +53,7 @@ pub(crate) fn entries_of(heights: &[i32], grid: Grid, spacings: Spacings, from: 
 {
     let mut at = from;
     let mut entries: usize = 1;
+    // (a walk until its end, no count by an index; `write_entries` goes the same way, and what each does at a post is half of its loop)
     let count = loop {
         let here = at.post;
         let ahead = at.onward(heights, grid, spacings);
