@@ -18,7 +18,7 @@ fn saddle_at(patterns: &[u8], changes: &[u8], p: usize) -> usize
 }
 
 // The saddles of row r, as driven, put behind those that were found in the rows before it: how many there are then. Every post is stored, and counts where
-// it is a saddle: there is no branch, since no processor would foresee it.
+// it is a saddle: there is no branch, since no processor would foresee it. (The list and how many were found: the next row stores behind them.)
 fn collect_row(
     grid: Grid,
     r: usize,

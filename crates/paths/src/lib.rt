@@ -1,6 +1,6 @@
 // The ends of the paths that a list of next posts makes, found in the list itself. What has no entry in the list, as the virtual pit, is an end, and
 // so is what is its own entry. A path that was walked is made short, so that no later walk goes along it again: the whole takes time linear in the
-// list.
+// list. (Posts are named by numbers: C lends such lists, and there is no heap.)
 #![tactic(auto)]
 
 ghost use Rattle.std.specs.Prelude.{◌≡◌, ◌+◌, ◌*◌, ◌≤◌, ◌<◌, length};
