@@ -18,7 +18,7 @@ fn saddle_at(patterns: &[u8], changes: &[u8], p: usize) -> usize
 }
 
 // The saddles of row r, as driven, put behind those that were found in the rows before it: how many there are then. Every post is stored, and counts where
-// it is a saddle: there is no branch, since no processor would foresee it.
+// it is a saddle: there is no branch, since no processor would foresee it. (The list and how many were found: the next row stores behind them.)
 fn collect_row(
     grid: Grid,
     r: usize,
@@ -36,6 +36,7 @@ fn collect_row(
     let first = r * columns;
     let back = r % 2 == 1;
     let mut m = found;
+    // (one loop for both ways: `0..columns` and its reverse are two types)
     for turn in 0..columns {
         let column = if back { columns - 1 - turn } else { turn };
         let p = first + column;

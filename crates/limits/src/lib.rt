@@ -28,7 +28,7 @@ pub fn is_spaced(spacings: Spacings) -> bool
     east & south
 }
 
-// Whether a height is in range.
+// Whether a height is in range. (By two comparisons, which docs/PROVING.md and an edit change.)
 pub fn is_height(h: i32) -> bool
     ensures { result ≡ is_height h }
 {

@@ -15,7 +15,7 @@ use line::draw_line;
 use surface::{DOWN, Refusal, Spacings, UP};
 use walk::Walk;
 
-// Next down from a post, or next up where `up`.
+// Next down from a post, or next up where `up`: what the two calls of C share.
 fn next_post(
     sheet: &[u8],
     rows: u32,

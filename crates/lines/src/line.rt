@@ -42,6 +42,7 @@ fn write_entries(
     line[0] = p as u16;
     let mut at = from;
     let mut i = 1;
+    // (a walk until its end; docs/DECISIONS.md, "Forms by location", asks for this form)
     let end = loop {
         let here = at.post;
         let ahead = at.onward(heights, grid, spacings);

@@ -16,7 +16,7 @@ pub struct Walk {
 }
 
 impl Walk {
-    // The walk a post on, from a post; at an end it stays.
+    // The walk a post on, from a post; at an end it stays. (No Option: an end is its own next, as C is told.)
     pub fn next(self, heights: &[i32], grid: Grid, spacings: Spacings) -> Walk
         requires { PostOf (plot_of grid heights.now) self.post × Spaced spacings }
         ensures { result ≡ record { post = next (toward (plot_of grid heights.now) spacings self.up) self.post; up = self.up } }
@@ -53,6 +53,7 @@ pub(crate) fn entries_of(heights: &[i32], grid: Grid, spacings: Spacings, from: 
 {
     let mut at = from;
     let mut entries: usize = 1;
+    // (a walk until its end, no count by an index; `write_entries` goes the same way, and what it does at a post is half of its loop)
     let count = loop {
         let here = at.post;
         let ahead = at.onward(heights, grid, spacings);

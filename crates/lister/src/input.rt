@@ -9,6 +9,7 @@ pub(crate) fn read_input<R: Read>(from: &mut R, file: &mut [u8]) -> io::Result<u
     ensures { IfOk result (λ bytes. bytes ≤ length file.new) }
 {
     let mut bytes = 0;
+    // (a read gives any number of bytes: no count by one)
     while bytes < file.len() {
         match from.read(&mut file[bytes..])? {
             0 => break,

@@ -28,6 +28,7 @@ fn print_posts(
 {
     let posts = grid.rows * grid.columns;
     let mut post = 0;
+    // (each buffer takes as many posts as it has room for: no count by one)
     while post < posts {
         let filled = put_posts(heights, grid, spacings, marks, dales, hills, post, buffer);
         let bytes = filled.bytes;

@@ -12,7 +12,7 @@ use changes::{change_table, changes_of, mark_of};
 use patterns::pattern_plot;
 use surface::Grid;
 
-// How many posts a part has.
+// How many posts a part has. (As many as tally::PART, where a count must fit a byte; here the array of changes is to be small.)
 const PART: usize = 240;
 
 // The changes of a part's patterns.

@@ -26,7 +26,7 @@ fn is_less(heights: &[i32], p: usize, q: usize) -> bool
     heights[p] < heights[q]
 }
 
-// The row of post p is odd, so that it is driven from its last column to its first.
+// The row of post p is odd, so that it is driven from its last column to its first. (Who has the row asks the row itself: this divides.)
 pub fn is_odd_row(grid: Grid, p: usize) -> bool
     requires { 1 ≤ grid.columns }
     ensures { result ≡ is_odd (row grid.columns p) }

@@ -1,6 +1,6 @@
 // The ends of the paths that a list of next posts makes, found in the list itself. What has no entry in the list, as the virtual pit, is an end, and
 // so is what is its own entry. A path that was walked is made short, so that no later walk goes along it again: the whole takes time linear in the
-// list.
+// list. (Posts are named by numbers: C lends such lists, and there is no heap.)
 #![tactic(auto)]
 
 ghost use Rattle.std.specs.Prelude.{◌≡◌, ◌+◌, ◌*◌, ◌≤◌, ◌<◌, length};
@@ -32,6 +32,7 @@ fn shorten_path(list: &mut [u16], p: usize, end: u16)
 {
     let stop = end as usize;
     let mut e = p;
+    // (a walk until the end, no count)
     while e != stop {
         let next = list[e] as usize;
         list[e] = end;
@@ -69,6 +70,7 @@ fn shorten_row(list: &mut [u16], first: usize, n: usize, back: bool)
     requires { PathsEnd list.old × (first + n ≤ length list.old) }
     ensures { Settled list.old list.new (InRow first n) }
 {
+    // (one loop for both ways: `0..n` and its reverse are two types)
     for turn in 0..n {
         let i = if back { n - 1 - turn } else { turn };
         settle(list, first + i);

@@ -64,7 +64,8 @@ fn ahead(heights: &[i32], grid: Grid, p: usize, d: usize, tie: bool, there: bool
     true
 }
 
-// The pair of E and SE of p, which stands at these borders, in an odd row or not.
+// The pair of E and SE of p, which stands at these borders, in an odd row or not. (A function for each pair: they read other posts by other borders, which
+// one function for all would be given as arguments.)
 fn east_pair(heights: &[i32], grid: Grid, p: usize, at: Borders, odd: bool) -> u8
     requires { PostOf (plot_of grid heights.now) p × (at ≡ borders_of grid.rows grid.columns p) × (odd ≡ is_odd (row grid.columns p)) }
     ensures { (result ≡ east_pair (plot_of grid heights.now) p) × (result ≤ 3) }

@@ -17,7 +17,7 @@ use text::put_line;
 // The most bytes that the lines of one post take.
 pub const POST_ROOM: usize = 960;
 
-// The first post whose lines are not written, and how many bytes are.
+// The first post whose lines are not written, and how many bytes are. (No Option: the next call goes on from this post, and the number of posts ends it.)
 #[derive(Clone, Copy)]
 pub struct Put {
     pub post: usize,

@@ -9,7 +9,7 @@ use crate::frame::{HEADER, byte_at};
 use surface::{DEFAULT_RULE, NAME_LENGTH, Refusal, Rule, Settings};
 use words::wide;
 
-// The kinds of entries.
+// The kinds of entries, as the bytes of a sheet have them.
 const RULE: u8 = 1;
 
 const NAME: u8 = 2;

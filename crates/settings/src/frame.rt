@@ -23,6 +23,7 @@ fn is_whole(sheet: &[u8]) -> bool
     ensures { result ≡ eqb (extent (entries_of sheet.now)) (length sheet.now - header_size) }
 {
     let mut at = HEADER;
+    // (each entry is as long as it says: no count by one)
     while at < sheet.len() {
         at = at + 2 + byte_at(sheet, at + 1) as usize;
     }

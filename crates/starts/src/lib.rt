@@ -82,7 +82,8 @@ pub fn start_table() -> [u8; 1024]
     STARTS
 }
 
-// The place where the first upper run of a pattern starts, 8, which stands for the post itself, where it has none.
+// The place where the first upper run of a pattern starts, 8, which stands for the post itself, where it has none. (No Option: the list of steps has an entry
+// for place 8, so that no post needs a test.)
 pub fn first_start(table: &[u8], pattern: u8) -> usize
     requires { table.now ≡ start_table }
     ensures { (result ≡ first_start pattern) × (result ≤ 8) }

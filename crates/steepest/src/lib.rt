@@ -132,7 +132,7 @@ fn takes_corner(up: bool, spacings: Spacings, own: i32, side: i32, length: u32, 
     at_least(cut, drop) & is_farther(up, corner, side)
 }
 
-// How far away the next post is, along the column where `turns`, else along the row.
+// How far away the next post is, along the column where `turns`, else along the row. (`choose` is of keys.)
 fn side_length(turns: bool, spacings: Spacings) -> u32
     ensures { result ≡ cond turns spacings.south spacings.east }
 {

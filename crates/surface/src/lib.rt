@@ -25,7 +25,7 @@ pub const HIGHEST: i32 = 1000000;
 // The virtual pit, as lists and answers have it.
 pub const VIRTUAL_PIT: usize = 65535;
 
-// The marks of a peak and of a pit, and the first mark of a saddle.
+// The marks of a peak and of a pit, and the first mark of a saddle: bytes of the lists that C lends.
 pub const PEAK: u8 = 1;
 
 pub const PIT: u8 = 2;
@@ -72,7 +72,7 @@ impl TryFrom<u8> for Rule {
     }
 }
 
-// Which way a walk goes: down to a pit or up to a peak.
+// Which way a walk goes: down to a pit or up to a peak. (Bools: constants at each call, so that the compiler makes a loop of its own for each way.)
 pub const DOWN: bool = false;
 
 pub const UP: bool = true;

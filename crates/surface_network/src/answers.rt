@@ -1,4 +1,5 @@
-// What C is told of what a call gives: 0, 0 and its values, or the number and place of its refusal and 0 for each value.
+// What C is told of what a call gives: 0, 0 and its values, or the number and place of its refusal and 0 for each value. (Functions, not
+// `From`: neither Result nor the structs are of this crate.)
 ghost use Rattle.std.specs.Prelude.{◌≡◌};
 ghost use Rattle.surface.specs.Refused.{outcome, sheet_of};
 ghost use Rattle.survey.specs.Told.{counts_of};

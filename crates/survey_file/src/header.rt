@@ -22,7 +22,7 @@ pub(crate) const SECOND_HEADER: usize = 11;
 // The spacings of a file that says none.
 const METRE: u32 = 100;
 
-// How many bytes stand before the heights.
+// How many bytes stand before the heights. (The version is a byte of the file, told by one test here and one below.)
 pub(crate) fn header_size(file: &[u8]) -> usize
     requires { least_size ≤ length file.now }
     ensures { result ≡ header_for (version_in file.now) }

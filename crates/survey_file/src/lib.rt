@@ -20,7 +20,7 @@ use surface::{Refusal, Spacings};
 use words::wide;
 use writing::{check_write, write_header, write_heights};
 
-// How many posts the file's plot has, 0 where it can have none.
+// How many posts the file's plot has, 0 where it can have none. (No Option: lists of this length are lent to read the file into.)
 pub fn posts_in(file: &[u8]) -> usize
     ensures { (result ≡ plot_posts file.now) × (result ≤ max_posts) }
 {

@@ -11,7 +11,8 @@ use merges::take_saddle;
 use starts::step_list;
 use surface::Grid;
 
-// Takes the saddles from the highest on, and stores the splits of each.
+// Takes the saddles from the highest on, and stores the splits of each. (The number m beside the list: Ascending, which `sort_saddles` promises, is of a list
+// as long as the plot.)
 pub fn sweep(
     heights: &[i32],
     grid: Grid,

@@ -40,7 +40,7 @@ fn step(rest: i32) -> i32
     0
 }
 
-// Whether a filed height is in range.
+// Whether a filed height is in range. (As limits::is_height: each is one line by its own definition and range.)
 fn is_tenths(t: i32) -> bool
     ensures { result ≡ is_tenths t }
 {
@@ -55,7 +55,8 @@ pub fn tenths_at(file: &[u8], at: usize) -> i32
     as_signed(word_at(file, at))
 }
 
-// The first of n posts whose filed height is out of range; `header` is how many bytes stand before the heights.
+// The first of n posts whose filed height is out of range; `header` is how many bytes stand before the heights. (As
+// limits::first_out of a list: each is one call of the library.)
 pub fn first_out(file: &[u8], header: usize, n: usize) -> Option<usize>
     requires { (header ≡ header_for (version_in file.now)) × (header + 4 * n ≤ length file.now) }
     ensures { let first = first_not is_tenths (tenths_of file.now n) in MatchOption result (first ≡ n) (λ i. (first ≡ i) × (i < n)) }

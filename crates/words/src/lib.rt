@@ -1,5 +1,5 @@
 // Big-endian numbers of 32 and of 16 bits in a list of bytes, and the signed reading of the former: the library's conversions, by the words of the
-// specification.
+// specification. (Words and halves are apart: each function is one call of the library at its width, and has a definition of its own.)
 #![tactic(auto)]
 
 ghost use Rattle.std.specs.Prelude.{◌≡◌, ◌+◌, ◌<◌, ◌≤◌, length};
