@@ -53,11 +53,8 @@ fn fill_joins(splits: &[u8], joins: &mut [u8])
     ensures { joins.new ≡ list_of (λ p. multiplicity (mark_in (get_or joins.old p 0)) - get_or splits.now p 0) (length joins.old) }
 {
     let table = change_table();
-    let n = joins.len();
-    let mut p = 0;
-    while p < n {
+    for p in 0..joins.len() {
         joins[p] = joins_from(&table, joins[p], splits[p]);
-        p += 1;
     }
 }
 

@@ -93,7 +93,7 @@ pub fn plot_grid(sheet: &[u8], rows: u32, columns: u32, heights: &[i32]) -> Resu
 {
     let sheet_says = read_sheet(sheet)?;
     check_plot(rows, columns, heights)?;
-    Ok(grid_of(sheet_says, rows, columns))
+    Ok(grid_of(sheet_says.into(), rows, columns))
 }
 
 // Rows 13, 14, 1, 15 and 2, which lead every call with both.
@@ -109,7 +109,7 @@ pub fn spaced_grid(
 {
     let said = read_sheet(sheet)?;
     check_spaced(rows, columns, spacings, heights)?;
-    Ok(grid_of(said, rows, columns))
+    Ok(grid_of(said.into(), rows, columns))
 }
 
 // The first post whose height is out of range.

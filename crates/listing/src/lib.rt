@@ -63,7 +63,7 @@ fn survey_plot(
     let counts = survey(sheet, rows, columns, heights, marks)?;
     dales_and_hills(sheet, rows, columns, east, south, heights, dales, hills)?;
     let plot = Read {
-        grid: grid_of(said, rows, columns),
+        grid: grid_of(said.into(), rows, columns),
         spacings,
     };
     Ok(Surveyed {
@@ -100,9 +100,22 @@ pub fn put_first(
     ensures { Begins (listing sheet.now file.now) heights.new marks.new dales.new hills.new out.new result }
 {
     match survey_plot(sheet, file, heights, marks, dales, hills) {
-        Ok(Surveyed { rows, columns, counts, plot }) => Begun {
+        Ok(
+            Surveyed {
+                rows,
+                columns,
+                counts,
+                plot,
+            },
+        ) => Begun {
             bytes: put_head(
-                out, 0, rows, columns, counts.peaks, counts.pits, counts.saddles,
+                out,
+                0,
+                rows,
+                columns,
+                counts.peaks,
+                counts.pits,
+                counts.saddles,
             ),
             plot: Some(plot),
         },

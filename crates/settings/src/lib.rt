@@ -4,7 +4,7 @@
 mod entries;
 mod frame;
 
-ghost use Rattle.std.specs.Prelude.{◌≡◌, ◌+◌, ◌≤◌, length, get_or, Ok};
+ghost use Rattle.std.specs.Prelude.{◌≡◌, ◌+◌, ◌≤◌, length, get_or};
 ghost use Rattle.surface.specs.Lists.{list_of};
 ghost use Rattle.surface.specs.Settings.{name_length};
 ghost use Rattle.surface.specs.Calls.{sheet_says, grid_said, settings_answer, settings_name};
@@ -12,7 +12,7 @@ ghost use Rattle.surface.specs.Refused.{sheet_of};
 
 use entries::read_entries;
 use frame::is_bad;
-use surface::{DEFAULT_RULE, Grid, NAME_LENGTH, Refusal, Rule, Settings};
+use surface::{DEFAULT_RULE, Grid, NAME_LENGTH, Refusal, Rule, Settings, Sheet};
 
 // What no sheet says.
 const NO_SHEET: Settings = Settings {
@@ -39,13 +39,13 @@ fn read_bytes(sheet: &[u8]) -> Result<Settings, Refusal>
 }
 
 // The grid of a call with this sheet and these sides, by the rule that the sheet says.
-pub fn grid_of(said: Settings, rows: u32, columns: u32) -> Grid
-    ensures { result ≡ grid_said (sheet_of (Ok said)) rows columns }
+pub fn grid_of(said: Sheet, rows: u32, columns: u32) -> Grid
+    ensures { result ≡ grid_said said rows columns }
 {
     Grid {
         rows: rows as usize,
         columns: columns as usize,
-        highest: matches!(said.rule, Rule::Highest),
+        highest: said.rule == u32::from(Rule::Highest),
     }
 }
 

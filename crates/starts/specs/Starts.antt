@@ -25,4 +25,4 @@ first_start pattern = get_or (upper_starts pattern) 0 8
 
 -- the place where upper run j of a pattern starts, if there is such a run
 abbrev pub StartOf : ℕ → ℕ → Option ℕ → Type 0
-StartOf pattern j r = MatchOption r (length (upper_starts pattern) ≤ j) (λ place. (j < length (upper_starts pattern)) × (place ≡ get_or (upper_starts pattern) j 8))
+StartOf pattern j r = MatchOption r (length (upper_starts pattern) ≤ j) (λ place. (j < length (upper_starts pattern)) × (place ≡ get_or (upper_starts pattern) j 8) × (place < 8))

@@ -1,5 +1,5 @@
 -- docs/SPECIFICATION.md, "Refusals": the numbers and places of the table, as the code names them.
-use Rattle.std.specs.Prelude.{◌≡◌, ℕ, Bool, false, ◌||◌, eqb, not, Result, Ok, Err, IfOk, IfErr, MatchResult}
+use Rattle.std.specs.Prelude.{◌≡◌, ℕ, Bool, false, ◌||◌, eqb, Result, Ok, Err, IfOk, MatchResult}
 use Rattle.surface.specs.Refusals.{Row, accepted}
 use Rattle.surface.specs.Plot.{Plot, plot_of}
 use Rattle.surface.specs.declared.Answer.{Answer}
@@ -37,6 +37,7 @@ outcome (Err why) = refused why
 -- the row of a refusal
 abbrev pub row_for : Refusal → Bool → Row
 row_for why holds = record { holds = holds; code = (refused why).code; place = (refused why).place }
+
 -- the number of a rule, and what is made of a byte that names one
 abbrev pub rule_number : Rule → ℕ
 rule_number Lowest = 1

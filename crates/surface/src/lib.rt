@@ -1,9 +1,9 @@
 // What the calls share: their answers, the grid that the functions below them work on, and the numbers of docs/SPECIFICATION.md by name.
 #![tactic(auto)]
 
-ghost use Rattle.std.specs.Prelude.{◌≡◌, not, [], ◌∷◌};
+ghost use Rattle.std.specs.Prelude.{◌≡◌, not, [], ◌∷◌, Ok};
 ghost use Rattle.surface.specs.Refusals.{verdict};
-ghost use Rattle.surface.specs.Refused.{refused, outcome, row_for, rule_number, Ruled};
+ghost use Rattle.surface.specs.Refused.{refused, outcome, row_for, rule_number, Ruled, sheet_of};
 
 // The version of the library, which sn_version and the lister tell. The header has it too, and the tests hold the two to each other.
 pub const VERSION_MAJOR: u32 = 4;
@@ -103,6 +103,20 @@ pub struct Grid {
 pub struct Settings {
     pub rule: Rule,
     pub named: u32,
+}
+
+// As C is told.
+impl From<Settings> for Sheet {
+    ghost from_gives = { λ said sheet. sheet ≡ sheet_of (Ok said) };
+
+    fn from(said: Settings) -> Sheet {
+        Sheet {
+            code: 0,
+            place: 0,
+            rule: said.rule.into(),
+            named: said.named,
+        }
+    }
 }
 
 // Why a call is refused: the rows of the table in docs/SPECIFICATION.md, "Refusals", from 1 to 15.

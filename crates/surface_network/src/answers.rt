@@ -31,12 +31,7 @@ pub(crate) fn sheet_of(given: Result<Settings, Refusal>) -> Sheet
     ensures { result ≡ sheet_of given }
 {
     match given {
-        Ok(value) => Sheet {
-            code: 0,
-            place: 0,
-            rule: value.rule.into(),
-            named: value.named,
-        },
+        Ok(said) => said.into(),
         Err(why) => {
             let Answer { code, place } = why.into();
             Sheet {

@@ -12,14 +12,14 @@ use Rattle.joins.proofs.fill_joins.Goals.{In-loop-p}
 
 pub loop-p-init : goal.loop-p-init
 unfolding stores
-loop-p-init c = (omega arith, refl, refl)
+loop-p-init c = refl
 
 -- the pattern that is read
 read : (i : In-loop-p) → let l = i.loop-p in get_or l.joins l.p 0 ≡ get_or i.args.joins.now l.p 0
 read i =
     let l = i.loop-p in
     let a = i.args in
-    ap (λ (m : List ℕ). get_or m l.p 0) l.invariant.2 ∙ stores-out _ 0 l.p a.joins.now l.p 0 (λ x y. omega arith)
+    ap (λ (m : List ℕ). get_or m l.p 0) l.invariant ∙ stores-out _ 0 l.p a.joins.now l.p 0 (λ x y. omega arith)
 
 pub joins_from-requires : goal.joins_from-requires
 joins_from-requires c =
@@ -28,19 +28,16 @@ joins_from-requires c =
 pub loop-p-preserved : goal.loop-p-preserved
 loop-p-preserved c =
     let l = c.loop-p in
-    let a = c.args in (
-      omega arith,
-      length-set l.joins _ _ ∙ l.invariant.1,
-      store-next _ 0 l.p (l.p + 1) l.joins a.joins.now l.p _ l.invariant.2 (omega arith) refl
-          (c.joins_from.ensures ∙ ap (λ (b : ℕ). multiplicity (mark_in b) - get_or a.splits.now l.p 0) (read (goal.at.loop-p-preserved c).In-loop-p)),
-    )
+    let a = c.args in
+    store-next _ 0 l.p (l.p + 1) l.joins a.joins.now l.p _ l.invariant (omega arith) refl
+    (c.joins_from.ensures ∙ ap (λ (b : ℕ). multiplicity (mark_in b) - get_or a.splits.now l.p 0) (read (goal.at.loop-p-preserved c).In-loop-p))
 
 pub returns : goal.returns
 returns c =
     let l = c.loop-p in
     let a = c.args in
     let e : l.p ≡ length a.joins.now = omega arith in
-    (rw e at l.invariant.2) ∙ stores-all _ (length a.joins.now) a.joins.now 0 refl
+    (rw e at l.invariant) ∙ stores-all _ (length a.joins.now) a.joins.now 0 refl
 
 pub bounds-splits-p : goal.bounds-splits-p
 bounds-splits-p c = omega (arith, c.requires.0)

@@ -6,7 +6,7 @@ use Rattle.surface.specs.Refused.{outcome}
 use Rattle.surface.specs.Calls.{plot_by, joins_answer}
 use Rattle.surface.proofs.OfCalls.Verdicts.{code}
 use Rattle.surface.proofs.OfCalls.Outcomes.{refused-numbered, handed}
-use Rattle.surface.proofs.OfCalls.Accepted.{Served, serve}
+use Rattle.surface.proofs.OfCalls.Accepted.{Gridded, gridded}
 use Rattle.surface.proofs.OfCalls.JoinsCall.{ForJoins, joins-valid, joins-refused, joins-filled}
 use Rattle.joins.proofs.Patterned.{patterns-long, splits-long, splits-le, joins-told}
 use Rattle.joins.proofs.joins_and_splits.Goals as goal
@@ -15,8 +15,8 @@ use Rattle.joins.proofs.joins_and_splits.Goals.{In_ok-grid}
 module _ (c : In_ok-grid) where
   -- the plot that the call goes on with, and what acceptance says of it
   served : let a = c.args in
-      Served (plot_by a.sheet.now a.rows a.columns a.heights.now) c.in_ok-grid.grid (λ pl. joins_verdict pl a.joins.now a.splits.now)
-  served = serve _ _ _ c.in_ok-grid.ensures.value c.in_ok-grid.ensures.grid
+      Gridded (plot_by a.sheet.now a.rows a.columns a.heights.now) c.in_ok-grid.grid (λ pl. joins_verdict pl a.joins.now a.splits.now)
+  served = gridded _ _ _ c.in_ok-grid.ensures.value c.in_ok-grid.ensures.grid
 
   -- what the call was lent
   lent : let a = c.args in ForJoins (plot_of c.in_ok-grid.grid a.heights.now) a.joins.now a.splits.now

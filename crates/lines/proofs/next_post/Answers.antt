@@ -12,7 +12,7 @@ use Rattle.surface.proofs.AnyOrder.Walks.{next-vertex}
 use Rattle.surface.proofs.OfPlots.Instance.{toward-falling}
 use Rattle.surface.proofs.OfCalls.Verdicts.{code}
 use Rattle.surface.proofs.OfCalls.Outcomes.{refused-numbered, handed}
-use Rattle.surface.proofs.OfCalls.Accepted.{Served, serve}
+use Rattle.surface.proofs.OfCalls.Accepted.{Gridded, gridded}
 use Rattle.surface.proofs.OfCalls.LineCalls.{ForNext, next-valid, next-accepted}
 use Rattle.lines.specs.Told.{next_told}
 use Rattle.lines.specs.declared.walk.Walk.{Walk}
@@ -21,8 +21,8 @@ use Rattle.lines.proofs.next_post.Goals.{In_ok-grid}
 
 module _ (c : In_ok-grid) where
   -- the plot that the call goes on with, and what acceptance says of it
-  served : let a = c.args in Served (plot_by a.sheet.now a.rows a.columns a.heights.now) c.in_ok-grid.grid (λ pl. next_verdict pl a.spacings a.post)
-  served = serve _ _ _ c.in_ok-grid.ensures.value c.in_ok-grid.ensures.grid
+  served : let a = c.args in Gridded (plot_by a.sheet.now a.rows a.columns a.heights.now) c.in_ok-grid.grid (λ pl. next_verdict pl a.spacings a.post)
+  served = gridded _ _ _ c.in_ok-grid.ensures.value c.in_ok-grid.ensures.grid
 
   accepted : let a = c.args in ForNext (plot_of c.in_ok-grid.grid a.heights.now) a.spacings a.post
   accepted = next-valid _ _ _ served.passed

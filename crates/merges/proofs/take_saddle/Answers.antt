@@ -53,7 +53,7 @@ loop-j-init c =
 pub post_at-q-requires : goal.post_at-q-requires
 post_at-q-requires c =
     let k = c.in-Some.ensures in
-    asked (goal.at.post_at-q-requires c).Start c.loop-j.j c.in-Some.place k.0 k.1 (omega (arith, k.1, start-place c.args.pattern (omega (arith, c.ranges.pattern)) c.loop-j.j k.0))
+    asked (goal.at.post_at-q-requires c).Start c.loop-j.j c.in-Some.place k.0 k.1 (omega (arith, k.2))
 
 next : (c : After-post_at-q) → (c.post_at-q.result ≡ start_at c.args.grid.columns c.args.pattern c.args.p c.loop-j.j) × (c.post_at-q.result < c.args.grid.rows * c.args.grid.columns)
 next c =

@@ -12,7 +12,7 @@ use Rattle.nexts.proofs.Filled.{downs-long, ups-long}
 use Rattle.parts.proofs.Descents.{dales-end, hills-end, dales-named, hills-named}
 use Rattle.surface.proofs.OfCalls.Verdicts.{code}
 use Rattle.surface.proofs.OfCalls.Outcomes.{refused-numbered, handed}
-use Rattle.surface.proofs.OfCalls.Accepted.{Served, serve}
+use Rattle.surface.proofs.OfCalls.Accepted.{Gridded, gridded}
 use Rattle.surface.proofs.OfCalls.PartsCall.{parts-valid, parts-refused, parts-filled}
 use Rattle.parts.proofs.dales_and_hills.Goals as goal
 use Rattle.parts.proofs.dales_and_hills.Goals.{In_ok-grid}
@@ -23,8 +23,8 @@ module _ (c : In_ok-grid) where
 
   -- the plot that the call goes on with, and what acceptance says of it
   served : let a = c.args in
-      Served (plot_by a.sheet.now a.rows a.columns a.heights.now) c.in_ok-grid.grid (λ pl. parts_verdict pl spaced a.dales.now a.hills.now)
-  served = serve _ _ _ c.in_ok-grid.ensures.value c.in_ok-grid.ensures.grid
+      Gridded (plot_by a.sheet.now a.rows a.columns a.heights.now) c.in_ok-grid.grid (λ pl. parts_verdict pl spaced a.dales.now a.hills.now)
+  served = gridded _ _ _ c.in_ok-grid.ensures.value c.in_ok-grid.ensures.grid
 
   -- what the call was lent
   lent : let a = c.args in ForNexts (plot_of c.in_ok-grid.grid a.heights.now) spaced true a.dales.now a.hills.now

@@ -8,7 +8,7 @@ use Rattle.surface.specs.declared.Answer.{Answer}
 use Rattle.surface.proofs.OfPlots.Codes.{mark-runs}
 use Rattle.surface.proofs.OfCalls.Verdicts.{code}
 use Rattle.surface.proofs.OfCalls.Outcomes.{refused-numbered, handed}
-use Rattle.surface.proofs.OfCalls.Accepted.{Served, serve}
+use Rattle.surface.proofs.OfCalls.Accepted.{Gridded, gridded}
 use Rattle.surface.proofs.OfCalls.RingCall.{ForRing, ring-valid, ring-refused, ring-served}
 use Rattle.ring.specs.Told.{ring_mark_of}
 use Rattle.ring.proofs.ring.Goals as goal
@@ -16,8 +16,8 @@ use Rattle.ring.proofs.ring.Goals.{In_ok-grid}
 
 module _ (c : In_ok-grid) where
   -- the plot that the call goes on with, and what acceptance says of it
-  served : let a = c.args in Served (plot_by a.sheet.now a.rows a.columns a.heights.now) c.in_ok-grid.grid (λ pl. ring_verdict pl a.post a.ring.now)
-  served = serve _ _ _ c.in_ok-grid.ensures.value c.in_ok-grid.ensures.grid
+  served : let a = c.args in Gridded (plot_by a.sheet.now a.rows a.columns a.heights.now) c.in_ok-grid.grid (λ pl. ring_verdict pl a.post a.ring.now)
+  served = gridded _ _ _ c.in_ok-grid.ensures.value c.in_ok-grid.ensures.grid
 
   accepted : let a = c.args in ForRing (plot_of c.in_ok-grid.grid a.heights.now) a.post a.ring.now
   accepted = ring-valid _ _ _ served.passed

@@ -21,7 +21,7 @@ pub returns-then-place-lt8 : goal.returns-then-place-lt8
 returns-then-place-lt8 c =
     let l = upper_starts c.args.pattern in
     let e = entry (goal.at.returns-then-place-lt8 c).Start in
-    (either (ltb c.args.j (length l)) (ltb-true c.args.j (length l)) (λ f. absurd (omega (arith, e, get_or-eq_default l 8 (ltb-false c.args.j (length l) f), c.if-place-lt8.true))), e)
+    (either (ltb c.args.j (length l)) (ltb-true c.args.j (length l)) (λ f. absurd (omega (arith, e, get_or-eq_default l 8 (ltb-false c.args.j (length l) f), c.if-place-lt8.true))), e, c.if-place-lt8.true)
 
 pub returns-else-place-lt8 : goal.returns-else-place-lt8
 returns-else-place-lt8 c =

@@ -1,16 +1,19 @@
 -- What acceptance says that calls share: sides, sizes and ranges by the rows of the table, the rows where these are given, and the plot of an accepted call.
 use Prim.Native.Nat.{ℕ}
-use mathlib.Core.Path.{◌≡◌, sym, ◌∙◌, ap}
+use mathlib.Core.Path.{◌≡◌, sym, ◌∙◌, ap, ap₂}
 use mathlib.Core.Bool.{Bool, false, not}
 use mathlib.Core.List.{List, [], ◌∷◌}
 use borrow.Author.Tests.{eqb-true, eq-eqb, leb-true, le-leb, not-false}
 use lib.Dec.{leb, eqb}
+use lib.IntN.{ℤ}
 use lib.ListN.{length}
 use Rattle.surface.specs.Plot.{Plot, plot_of, posts, is_height, Sides, Valid}
 use Rattle.surface.specs.Spacings.{is_spacing, Spaced}
 use Rattle.surface.specs.Refusals.{accepted, verdict, row1, row2, row4, row15, leading, leading_spaced}
+use Rattle.surface.specs.Calls.{plot_said, grid_said}
 use Rattle.surface.specs.declared.Answer.{Answer}
 use Rattle.surface.specs.declared.Grid.{Grid}
+use Rattle.surface.specs.declared.Sheet.{Sheet}
 use Rattle.surface.specs.declared.Spacings.{Spacings}
 use Rattle.surface.proofs.General.Bools.{and_left, and_right}
 use Rattle.surface.proofs.AnyOrder.Grid.{test-sides, sides-test}
@@ -75,11 +78,29 @@ module _ (pl : Plot) where
 abbrev pub SheetPasses : Plot → Type 0
 SheetPasses pl = (pl.bad_sheet ≡ false) × (pl.bad_entry ≡ false)
 
--- A call that is accepted goes on with a grid: that grid and the heights are the plot that it was asked about, and the verdict on it is acceptance too.
+-- A call whose verdict is acceptance goes on with a grid that has the rule of its sheet: that grid and the heights are the plot that it was asked about, and
+-- the verdict on it is acceptance too.
+module _ (said : Sheet) (rows columns : ℕ) (heights : List ℤ) where
+  pub record Served (verdict_on : Plot → Answer) (grid : Grid) : Type 0 where
+    pub same_plot : plot_said said rows columns heights ≡ plot_of grid heights
+    pub passed : (verdict_on (plot_of grid heights)).code ≡ 0
+
+  pub serve : (verdict_on : Plot → Answer) → ((verdict_on (plot_said said rows columns heights)).code ≡ 0 → SheetPasses (plot_said said rows columns heights))
+      → {v : Answer} → v ≡ verdict_on (plot_said said rows columns heights) → v.code ≡ 0
+      → {grid : Grid} → grid ≡ grid_said said rows columns → Served verdict_on grid
+  serve verdict_on sheet e z g =
+      let h = sym (code e) ∙ z in
+      let s = sheet h in
+      let same : plot_said said rows columns heights ≡ plot_of (grid_said said rows columns) heights =
+      ap₂ (λ (a b : Bool). record { rows = rows; columns = columns; heights = heights; bad_sheet = a; bad_entry = b; highest = eqb said.rule 2 }) s.0 s.1
+      in
+      rw g (record { same_plot = same; passed = sym (ap (λ (pl : Plot). (verdict_on pl).code) same) ∙ h })
+
+-- The same of a check that gave the grid.
 module _ (pl : Plot) (grid : Grid) where
-  pub record Served (verdict_on : Plot → Answer) : Type 0 where
+  pub record Gridded (verdict_on : Plot → Answer) : Type 0 where
     pub same_plot : pl ≡ plot_of grid pl.heights
     pub passed : (verdict_on (plot_of grid pl.heights)).code ≡ 0
 
-  pub serve : (verdict_on : Plot → Answer) → accepted ≡ verdict_on pl → plot_of grid pl.heights ≡ pl → Served verdict_on
-  serve verdict_on e same = record { same_plot = sym same; passed = ap (λ (x : Plot). (verdict_on x).code) same ∙ sym (code e) }
+  pub gridded : (verdict_on : Plot → Answer) → accepted ≡ verdict_on pl → plot_of grid pl.heights ≡ pl → Gridded verdict_on
+  gridded verdict_on e same = record { same_plot = sym same; passed = ap (λ (x : Plot). (verdict_on x).code) same ∙ sym (code e) }

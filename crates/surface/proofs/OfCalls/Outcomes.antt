@@ -5,7 +5,7 @@ use mathlib.Core.Path.{◌≡◌, refl, sym, ◌∙◌, ap}
 use mathlib.Core.Bool.{Bool, true, false, not}
 use mathlib.Core.List.{List, [], ◌∷◌, ◌++◌}
 use lib.Dec.{T}
-use Rattle.std.specs.Prelude.{Result, Ok, Err, IsErrAnd}
+use Rattle.std.specs.Prelude.{Result, Err, IsErrAnd}
 use Rattle.std.proofs.lemmas.Result.{err_from_is_err_and}
 use lib.Dec.{eqb}
 use Rattle.surface.specs.Settings.{is_bad_sheet, has_bad_entry}
@@ -14,7 +14,6 @@ use Rattle.surface.specs.Calls.{sheet_says}
 use Rattle.surface.specs.Refused.{refused, row_for}
 use Rattle.surface.specs.declared.Refusal.{Refusal}
 use Rattle.surface.specs.declared.Refusal.TheVariants.{BadSides, BadHeightsLength, BadListLength, HeightOutOfRange, NoSuchPost, BadNewHeight, NotASaddle, NoSuchRun, LineTooLong, FileTooShort, BadVersion, BadCount, BadSheet, BadEntry, BadSpacing}
-use Rattle.surface.specs.declared.Answer.{Answer}
 use Rattle.surface.proofs.OfCalls.Verdicts.{code, numbered, leads-refused, leads-passed}
 
 -- no refusal has number 0

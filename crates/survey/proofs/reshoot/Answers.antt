@@ -10,7 +10,7 @@ use Rattle.surface.specs.Refused.{outcome}
 use Rattle.surface.specs.Calls.{plot_by, reshoot_answer}
 use Rattle.surface.proofs.OfCalls.Verdicts.{code}
 use Rattle.surface.proofs.OfCalls.Outcomes.{refused-numbered, handed}
-use Rattle.surface.proofs.OfCalls.Accepted.{Served, serve}
+use Rattle.surface.proofs.OfCalls.Accepted.{Gridded, gridded}
 use Rattle.surface.proofs.OfCalls.MarkCalls.{ForReshoot, reshoot-valid, reshoot-refused, reshoot-filled}
 use Rattle.surface.proofs.OfCalls.Series.{reshot-valid}
 use Rattle.survey.proofs.reshoot.Goals as goal
@@ -23,8 +23,8 @@ held s = search rules
 module _ (c : In_ok-grid) where
   -- the plot that the call goes on with, and what acceptance says of it
   served : let a = c.args in
-      Served (plot_by a.sheet.now a.rows a.columns a.heights.now) c.in_ok-grid.grid (λ pl. reshoot_verdict pl a.marks.now a.post a.height)
-  served = serve _ _ _ (rw (held (goal.at.In_ok-grid c).Start) at c.in_ok-grid.ensures.value) c.in_ok-grid.ensures.grid
+      Gridded (plot_by a.sheet.now a.rows a.columns a.heights.now) c.in_ok-grid.grid (λ pl. reshoot_verdict pl a.marks.now a.post a.height)
+  served = gridded _ _ _ (rw (held (goal.at.In_ok-grid c).Start) at c.in_ok-grid.ensures.value) c.in_ok-grid.ensures.grid
 
   accepted : let a = c.args in ForReshoot (plot_of c.in_ok-grid.grid a.heights.now) a.marks.now a.post a.height
   accepted = reshoot-valid _ _ _ _ served.passed

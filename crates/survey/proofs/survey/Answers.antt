@@ -7,7 +7,7 @@ use Rattle.surface.specs.Calls.{plot_by}
 use Rattle.surface.specs.declared.Answer.{Answer}
 use Rattle.surface.proofs.OfCalls.Verdicts.{code}
 use Rattle.surface.proofs.OfCalls.Outcomes.{refused-numbered, handed}
-use Rattle.surface.proofs.OfCalls.Accepted.{Served, serve}
+use Rattle.surface.proofs.OfCalls.Accepted.{Gridded, gridded}
 use Rattle.surface.proofs.OfCalls.MarkCalls.{ForSurvey, survey-valid, survey-refused, survey-served, survey-filled}
 use Rattle.survey.specs.Told.{counts_of}
 use Rattle.survey.proofs.survey.Goals as goal
@@ -15,8 +15,8 @@ use Rattle.survey.proofs.survey.Goals.{In_ok-grid}
 
 module _ (c : In_ok-grid) where
   -- the plot that the call goes on with, and what acceptance says of it
-  served : let a = c.args in Served (plot_by a.sheet.now a.rows a.columns a.heights.now) c.in_ok-grid.grid (λ pl. survey_verdict pl a.marks.now)
-  served = serve _ _ _ c.in_ok-grid.ensures.value c.in_ok-grid.ensures.grid
+  served : let a = c.args in Gridded (plot_by a.sheet.now a.rows a.columns a.heights.now) c.in_ok-grid.grid (λ pl. survey_verdict pl a.marks.now)
+  served = gridded _ _ _ c.in_ok-grid.ensures.value c.in_ok-grid.ensures.grid
 
   accepted : ForSurvey (plot_of c.in_ok-grid.grid c.args.heights.now) c.args.marks.now
   accepted = survey-valid _ _ served.passed
@@ -27,8 +27,8 @@ returns-in_err-grid c =
     let r = survey-refused _ _ (λ z. refused-numbered _ (code e ∙ z)) in
     record {
       value = ap counts_of (handed _ _ c.from_residual.ensures.1)
-      ∙ ap (λ (a : Answer). record { code = a.code; place = a.place; peaks = 0; pits = 0; saddles = 0 }) e
-      ∙ sym r.0;
+          ∙ ap (λ (a : Answer). record { code = a.code; place = a.place; peaks = 0; pits = 0; saddles = 0 }) e
+          ∙ sym r.0;
       marks_after = sym r.1;
     }
 

@@ -33,8 +33,8 @@ returns-in_err-check_read c =
     let r = read-refused _ _ (λ z. refused-numbered _ (code e ∙ z)) in
     record {
       value = ap size_of (handed _ _ c.from_residual.ensures.1)
-      ∙ ap (λ (a : Answer). record { code = a.code; place = a.place; rows = 0; columns = 0; east = 0; south = 0 }) e
-      ∙ sym r.0;
+          ∙ ap (λ (a : Answer). record { code = a.code; place = a.place; rows = 0; columns = 0; east = 0; south = 0 }) e
+          ∙ sym r.0;
       heights_after = sym r.1;
     }
 

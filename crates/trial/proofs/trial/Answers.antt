@@ -13,7 +13,7 @@ use Rattle.surface.specs.declared.Answer.{Answer}
 use Rattle.surface.proofs.General.ListOf.{length-part-replicate}
 use Rattle.surface.proofs.OfCalls.Verdicts.{code}
 use Rattle.surface.proofs.OfCalls.Outcomes.{refused-numbered, handed}
-use Rattle.surface.proofs.OfCalls.Accepted.{Served, serve}
+use Rattle.surface.proofs.OfCalls.Accepted.{Gridded, gridded}
 use Rattle.surface.proofs.OfCalls.TrialCall.{ForTrial, trial-valid, trial-refused, trial-served}
 use Rattle.trial.specs.Told.{tried_of}
 use Rattle.trial.proofs.trial.Goals as goal
@@ -25,8 +25,8 @@ held s = search rules
 
 module _ (c : In_ok-grid) where
   -- the plot that the call goes on with, and what acceptance says of it
-  served : let a = c.args in Served (plot_by a.sheet.now a.rows a.columns a.heights.now) c.in_ok-grid.grid (λ pl. trial_verdict pl a.post a.height)
-  served = serve _ _ _ (rw (held (goal.at.In_ok-grid c).Start) at c.in_ok-grid.ensures.value) c.in_ok-grid.ensures.grid
+  served : let a = c.args in Gridded (plot_by a.sheet.now a.rows a.columns a.heights.now) c.in_ok-grid.grid (λ pl. trial_verdict pl a.post a.height)
+  served = gridded _ _ _ (rw (held (goal.at.In_ok-grid c).Start) at c.in_ok-grid.ensures.value) c.in_ok-grid.ensures.grid
 
   accepted : let a = c.args in ForTrial (plot_of c.in_ok-grid.grid a.heights.now) a.post a.height
   accepted = trial-valid _ _ _ served.passed

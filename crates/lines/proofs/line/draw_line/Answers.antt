@@ -5,15 +5,15 @@ use Rattle.surface.specs.Refusals.{next_verdict}
 use Rattle.surface.specs.Lines.{toward}
 use Rattle.surface.specs.Calls.{plot_by, line_answer, line_list}
 use Rattle.surface.proofs.OfCalls.Outcomes.{refused-numbered, handed}
-use Rattle.surface.proofs.OfCalls.Accepted.{Served, serve}
+use Rattle.surface.proofs.OfCalls.Accepted.{Gridded, gridded}
 use Rattle.surface.proofs.OfCalls.LineCalls.{no-post}
 use Rattle.lines.specs.Told.{line_told}
 use Rattle.lines.proofs.line.draw_line.Goals as goal
 use Rattle.lines.proofs.line.draw_line.Goals.{In_ok-grid}
 
 -- the plot that the call goes on with, and what acceptance says of it
-served : (c : In_ok-grid) → let a = c.args in Served (plot_by a.sheet.now a.rows a.columns a.heights.now) c.in_ok-grid.grid (λ pl. next_verdict pl a.spacings a.post)
-served c = serve _ _ _ c.in_ok-grid.ensures.value c.in_ok-grid.ensures.grid
+served : (c : In_ok-grid) → let a = c.args in Gridded (plot_by a.sheet.now a.rows a.columns a.heights.now) c.in_ok-grid.grid (λ pl. next_verdict pl a.spacings a.post)
+served c = gridded _ _ _ c.in_ok-grid.ensures.value c.in_ok-grid.ensures.grid
 
 pub returns-in_err-grid : goal.returns-in_err-grid
 returns-in_err-grid c =
