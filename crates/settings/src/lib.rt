@@ -5,7 +5,7 @@ mod entries;
 mod frame;
 
 ghost use Rattle.std.specs.Prelude.{◌≡◌, ◌+◌, ◌≤◌, length, get_or};
-ghost use Rattle.surface.specs.Lists.{list_of};
+ghost use Rattle.surface.specs.Lists.{list_of, stores};
 ghost use Rattle.surface.specs.Settings.{name_length};
 ghost use Rattle.surface.specs.Calls.{sheet_says, grid_said, settings_answer, settings_name};
 ghost use Rattle.surface.specs.Refused.{sheet_of};
@@ -49,13 +49,24 @@ pub fn grid_of(said: Sheet, rows: u32, columns: u32) -> Grid
     }
 }
 
+// Copies n bytes of a sheet from `at` on to the front of a list. (By a loop: `copy_from_slice` needs memmove here, and the archive asks for memcpy and memset
+// alone.)
+fn copy_bytes(sheet: &[u8], at: usize, n: usize, list: &mut [u8])
+    requires { (at + n ≤ length sheet.now) × (n ≤ length list.old) }
+    ensures { list.new ≡ stores (λ i. get_or sheet.now (at + i) 0) 0 n list.old }
+{
+    for i in 0..n {
+        list[i] = sheet[at + i];
+    }
+}
+
 // Writes the bytes of a sheet from `at` on, as many as the list takes, and zeros after them. A name never has more; this need not know that.
 fn put_name(sheet: &[u8], at: usize, name: &mut [u8])
     requires { (at ≤ length sheet.now) × (length name.old ≡ name_length) }
     ensures { name.new ≡ list_of (λ i. get_or sheet.now (at + i) 0) name_length }
 {
     let n = (sheet.len() - at).min(NAME_LENGTH);
-    name[..n].copy_from_slice(&sheet[at..at + n]);
+    copy_bytes(sheet, at, n, name);
     name[n..].fill(0);
 }
 

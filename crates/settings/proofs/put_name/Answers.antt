@@ -7,10 +7,9 @@ use borrow.Author.Tests.{ltb-true, ltb-false}
 use lib.Dec.{ltb}
 use lib.ListN.{length, get_or, get_or-eq_default}
 use lib.Seq.{ext_get_or}
-use Rattle.std.proofs.Common.{rules, ap, ◌++◌, take, drop, replicate}
-use Rattle.std.proofs.lemmas.List.{places}
+use Rattle.std.proofs.Common.{rules, ap, take, drop, replicate}
 use Rattle.surface.specs.Lists.{list_of, stores}
-use Rattle.surface.proofs.General.Slices.{put-stores, fill-stores}
+use Rattle.surface.proofs.General.Slices.{fill-stores}
 use Rattle.surface.proofs.General.Bools.{either}
 use Rattle.surface.proofs.General.ListOf.{length-list_of, get_or-list_of}
 use Rattle.surface.proofs.General.Stores.{length-stores, stores-in, stores-out}
@@ -51,13 +50,8 @@ returns c =
     let e = c.min-n.ensures in
     let n = c.min-n.result in
     let S = a.sheet.now in
-    let new = c.copy_from_slice.new.self in
-    let new-is = c.copy_from_slice.ensures.after in
-    let size : length new ≡ n = search rules in
-    let copied : new ++ drop n a.name.now ≡ stores (byte S a.at) 0 n a.name.now =
-    put-stores (byte S a.at) 0 n a.name.now new 0 (omega arith) size (λ i h k. search (rules, places)) in
-    let m = new ++ drop n a.name.now in
-    let long : length m ≡ 32 = search rules in
-    let room : length (take (length m - n) (drop n m)) ≡ length m - n = search rules in
-    let cleared = fill-stores n (32 - n) (length m) m c.fill.new.self 0 (omega arith) (omega arith) (c.fill.ensures.after (λ y e. e) ∙ ap (λ k. replicate k 0) room) in
-    cleared ∙ ap (λ l. stores (λ _. 0) n (32 - n) l) copied ∙ is-put S a.name.now a.at n c.requires.1 (omega (arith, e)) (λ h. omega (arith, e))
+    let copied = c.copy_bytes.new.list in
+    let long : length copied ≡ 32 = omega (arith, c.copy_bytes.auto, c.requires.1) in
+    let room : length (take (length copied - n) (drop n copied)) ≡ length copied - n = search rules in
+    let cleared = fill-stores n (32 - n) (length copied) copied c.fill.new.self 0 (omega arith) (omega arith) (c.fill.ensures.after (λ y e. e) ∙ ap (λ k. replicate k 0) room) in
+    cleared ∙ ap (λ l. stores (λ _. 0) n (32 - n) l) c.copy_bytes.ensures ∙ is-put S a.name.now a.at n c.requires.1 (omega (arith, e)) (λ h. omega (arith, e))

@@ -4,7 +4,7 @@ use native.Mathlib.Omega.{arith}
 use mir.Syntax.{w32}
 use mir.Val.{to_z, of_z}
 use borrow.Author.Rules.{rules}
-use Rattle.surface.specs.Plot.{Plot, plot_of}
+use Rattle.surface.specs.Plot.{plot_of}
 use Rattle.surface.specs.Refusals.{reshoot_verdict}
 use Rattle.surface.specs.Refused.{outcome}
 use Rattle.surface.specs.Calls.{plot_by, reshoot_answer}

@@ -1,7 +1,7 @@
 -- A refusal is handed on, and what an accepted call was given is a plot.
-use mathlib.Core.Path.{◌≡◌, sym, ◌∙◌, ap}
+use mathlib.Core.Path.{sym, ◌∙◌, ap}
 use native.Mathlib.Omega.{arith}
-use Rattle.surface.specs.Plot.{Plot, plot_of}
+use Rattle.surface.specs.Plot.{plot_of}
 use Rattle.surface.specs.Refusals.{survey_verdict}
 use Rattle.surface.specs.Calls.{plot_by}
 use Rattle.surface.specs.declared.Answer.{Answer}

@@ -1,5 +1,5 @@
 -- After the rows up to 3, row 4.
-use mathlib.Core.Path.{◌≡◌, sym, ◌∙◌, ap}
+use mathlib.Core.Path.{sym, ◌∙◌, ap}
 use mathlib.Core.List.{[], ◌∷◌}
 use native.Mathlib.Omega.{arith}
 use Rattle.surface.specs.Refusals.{survey_verdict}
