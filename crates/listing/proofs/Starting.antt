@@ -1,11 +1,10 @@
 -- The start of a listing: what reading, surveying and finding the dales and hills make of a file.
-use Prim.Native.Nat.{ℕ, ◌≤◌}
+use Prim.Native.Nat.{ℕ}
 use mathlib.Core.Path.{◌≡◌, refl, sym, ◌∙◌, ap}
 use mathlib.Core.Bool.{Bool, ◌&&◌}
 use mathlib.Core.List.{List, [], ◌∷◌, ◌++◌}
 use borrow.Author.Tests.{ne_eqb}
 use lib.Dec.{eqb}
-use Rattle.std.proofs.Common.{Some}
 use lib.IntN.{ℤ, pos}
 use lib.ListN.{length, replicate, length-replicate}
 use Rattle.surface.specs.Plot.{Plot, ruled, posts, is_side, Valid}
@@ -24,11 +23,8 @@ use Rattle.surface.proofs.OfCalls.PartsCall.{valid-parts}
 use Rattle.surface.proofs.OfCalls.FileCalls.{rows_in, columns_in, posts_in, read-valid, read-code, read-served}
 use Rattle.surface.proofs.OfCalls.RoundTrip.{read-fresh, read-plot, read-spaced}
 use Rattle.survey_file.specs.Layout.{plot_posts}
-use Rattle.text.specs.Wrote.{line_room, Wrote}
 use Rattle.saddle_lines.specs.Lines.{lines_from, Known}
 use Rattle.listing.specs.First.{Lent, Goes}
-use Rattle.listing.specs.declared.Begun.{Begun}
-use Rattle.text.proofs.Writing.{front}
 use Rattle.saddle_lines.proofs.Chunks.{from_zero}
 
 -- the list that the definition of a listing lends

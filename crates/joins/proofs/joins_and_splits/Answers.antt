@@ -1,6 +1,6 @@
 -- A refusal is handed on, and joins and splits are those of the patterns.
 use mathlib.Core.Path.{sym, ◌∙◌, ap}
-use Rattle.surface.specs.Plot.{Plot, plot_of}
+use Rattle.surface.specs.Plot.{plot_of}
 use Rattle.surface.specs.Refusals.{joins_verdict}
 use Rattle.surface.specs.Refused.{outcome}
 use Rattle.surface.specs.Calls.{plot_by, joins_answer}

@@ -1,16 +1,14 @@
 -- Refused by the rows that lead, or the step of a walk from the post.
 use native.Mathlib.Omega.{arith}
-use mathlib.Core.Path.{◌≡◌, refl, sym, ◌∙◌, ap}
+use mathlib.Core.Path.{refl, ◌∙◌, ap}
 use mathlib.Core.Logic.{inl}
 use borrow.Author.Tests.{ne_eqb}
-use Rattle.surface.specs.Plot.{Plot, plot_of}
+use Rattle.surface.specs.Plot.{plot_of}
 use Rattle.surface.specs.Refusals.{next_verdict}
 use Rattle.surface.specs.Calls.{plot_by}
-use Rattle.surface.specs.declared.Answer.{Answer}
 use Rattle.surface.proofs.AnyOrder.Grid.{vertex-low}
 use Rattle.surface.proofs.AnyOrder.Walks.{next-vertex}
 use Rattle.surface.proofs.OfPlots.Instance.{toward-falling}
-use Rattle.surface.proofs.OfCalls.Verdicts.{code}
 use Rattle.surface.proofs.OfCalls.Outcomes.{refused-numbered, handed}
 use Rattle.surface.proofs.OfCalls.Accepted.{Gridded, gridded}
 use Rattle.surface.proofs.OfCalls.LineCalls.{ForNext, next-valid, next-accepted}

@@ -1,6 +1,6 @@
 -- The first line, or the whole listing where it is refused.
 use native.Mathlib.Omega.{arith}
-use mathlib.Core.Path.{sym, ◌∙◌}
+use mathlib.Core.Path.{◌∙◌}
 use Rattle.text.proofs.Writing.{front}
 use Rattle.listing.proofs.put_first.Goals as goal
 

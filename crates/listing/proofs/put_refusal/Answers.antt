@@ -1,6 +1,5 @@
 -- The text of a refusal, and no plot.
-use mathlib.Core.Path.{refl, ap}
-use Rattle.surface.specs.declared.Answer.{Answer}
+use mathlib.Core.Path.{refl}
 use Rattle.text.proofs.Writing.{front}
 use Rattle.listing.proofs.put_refusal.Goals as goal
 

@@ -1,13 +1,12 @@
 -- Refused by the sheet or the file, or a plot, which is then surveyed and parted.
-use mathlib.Core.Path.{◌≡◌, refl, sym, ◌∙◌, ap}
-use mathlib.Core.Bool.{Bool}
+use mathlib.Core.Path.{◌≡◌, refl, ◌∙◌, ap}
 use mathlib.Core.List.{List}
 use lib.Dec.{eqb}
 use lib.IntN.{ℤ}
 use Prim.Native.Nat.{ℕ}
 use Rattle.std.specs.Prelude.{Ok, Err}
 use Rattle.surface.specs.Plot.{ruled}
-use Rattle.surface.specs.Calls.{sheet_says, plot_by, survey_answer, parts_answer}
+use Rattle.surface.specs.Calls.{plot_by, survey_answer, parts_answer}
 use Rattle.surface.specs.Spacings.{spacings}
 use Rattle.surface.specs.Lister.{file_listing, listing}
 use Rattle.surface.specs.Refused.{sheet_of}
@@ -76,7 +75,7 @@ returns-in_err-dales_and_hills c =
 pub returns : goal.returns
 returns c =
     let at = (goal.at.returns c).In_ok-read in
-    rw (← passes (here at), c.grid_of.ensures)
+    rw (← passes (here at), c.grid_of.ensures, c.into.ensures)
     (goes c.args.sheet.now c.args.file.now c.args.heights.now c.requires.heights_size (size at) c.in_ok-read.ensures.value _ (means (here at)) _ c.args.marks.now c.args.dales.now c.args.hills.now refl
     c.in_ok-read.ensures.heights_after c.requires _ _ _ (counts_of (Ok c.in_ok-counts.counts)) c.in_ok-counts.ensures.value c.in_ok-counts.ensures.marks_after
     c.in_ok-dales_and_hills.ensures.dales_after c.in_ok-dales_and_hills.ensures.hills_after)

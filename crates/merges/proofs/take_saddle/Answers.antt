@@ -7,7 +7,7 @@ use Rattle.surface.specs.Plot.{plot_of, max_side, max_posts}
 use Rattle.surface.specs.Patterns.{upper_starts}
 use Rattle.paths.specs.Paths.{path_end}
 use Rattle.starts.specs.Starts.{strides, stride_to, post_at, start_posts}
-use Rattle.starts.proofs.Entries.{starts-few, start-place}
+use Rattle.starts.proofs.Entries.{starts-few}
 use Rattle.merges.specs.Merges.{Merged}
 use Rattle.merges.proofs.Merging.{merged-one, merged-more, down_to, few-splits, merged-all, merged-from, start_fits}
 use Rattle.merges.proofs.take_saddle.Goals as goal

@@ -1,7 +1,7 @@
 -- A refusal is handed on, and the ends of the paths that the next posts make are the names asked for.
 use mathlib.Core.Path.{refl, sym, ◌∙◌, ap}
 use mathlib.Core.Bool.{true}
-use Rattle.surface.specs.Plot.{Plot, plot_of}
+use Rattle.surface.specs.Plot.{plot_of}
 use Rattle.surface.specs.Spacings.{spacings}
 use Rattle.surface.specs.Refusals.{parts_verdict}
 use Rattle.surface.specs.Refused.{outcome}

@@ -1,6 +1,6 @@
 -- A refusal is handed on; an accepted call has a post of a plot and eight bytes.
-use mathlib.Core.Path.{◌≡◌, sym, ◌∙◌, ap}
-use Rattle.surface.specs.Plot.{Plot, plot_of}
+use mathlib.Core.Path.{sym, ◌∙◌, ap}
+use Rattle.surface.specs.Plot.{plot_of}
 use Rattle.surface.specs.Flags.{runs_for}
 use Rattle.surface.specs.Refusals.{ring_verdict}
 use Rattle.surface.specs.Calls.{plot_by}

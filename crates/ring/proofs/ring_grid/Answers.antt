@@ -4,7 +4,7 @@ use mathlib.Core.List.{[], ◌∷◌}
 use native.Mathlib.Omega.{arith}
 use lib.ListN.{length}
 use Rattle.surface.specs.Plot.{Plot, posts, Sides}
-use Rattle.surface.specs.Refusals.{verdict, row3, row4, row5, ring_verdict}
+use Rattle.surface.specs.Refusals.{ring_verdict}
 use Rattle.surface.specs.Refused.{outcome}
 use Rattle.surface.specs.Calls.{plot_by}
 use Rattle.surface.proofs.OfCalls.Verdicts.{code}

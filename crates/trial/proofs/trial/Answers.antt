@@ -6,7 +6,7 @@ use lib.ListN.{length}
 use mir.Syntax.{w32}
 use mir.Val.{to_z, of_z}
 use borrow.Author.Rules.{rules}
-use Rattle.surface.specs.Plot.{Plot, plot_of}
+use Rattle.surface.specs.Plot.{plot_of}
 use Rattle.surface.specs.Refusals.{trial_verdict}
 use Rattle.surface.specs.Calls.{plot_by}
 use Rattle.surface.specs.declared.Answer.{Answer}

@@ -1,6 +1,6 @@
 -- By the rows that lead, or as the line of an accepted post.
 use mathlib.Core.Path.{◌≡◌, sym, ◌∙◌, ap, subst}
-use Rattle.surface.specs.Plot.{Plot, plot_of}
+use Rattle.surface.specs.Plot.{Plot}
 use Rattle.surface.specs.Refusals.{next_verdict}
 use Rattle.surface.specs.Lines.{toward}
 use Rattle.surface.specs.Calls.{plot_by, line_answer, line_list}

@@ -1,5 +1,5 @@
 -- The loop's invariant: i codes were stored.
-use Prim.Native.Nat.{◌-◌, ◌≤◌}
+use Prim.Native.Nat.{◌≤◌}
 use mathlib.Core.Path.{◌≡◌}
 use lib.ListN.{length, get_or}
 use Rattle.surface.specs.Lists.{stores}

@@ -16,7 +16,7 @@ use Rattle.surface.proofs.OfPlots.SurveyFile.{length-tenths_of}
 use Rattle.surface.proofs.OfCalls.FileCalls.{rows_in, columns_in, posts_in, header-bounds}
 use Rattle.surface.specs.Refused.{outcome}
 use Rattle.surface.proofs.OfCalls.Outcomes.{check-refused, handed}
-use Rattle.surface.proofs.OfCalls.Verdicts.{code, passed, row-holds, row-passed, none_left, leads-refused, leads-passed}
+use Rattle.surface.proofs.OfCalls.Verdicts.{code, passed, row-holds, row-passed, none_left, leads-passed}
 use Rattle.survey_file.specs.Layout.{least_size, header_rows}
 use Rattle.survey_file.proofs.Posts.{plot-posts}
 use Rattle.survey_file.proofs.reading.check_read.Goals as goal
