@@ -8,10 +8,18 @@ ghost use Rattle.surface.specs.Plot.{plot_of, posts, reshot, is_height, PostOf};
 ghost use Rattle.surface.specs.Marks.{marks_of};
 ghost use Rattle.surface.specs.Patterns.{pattern_at};
 ghost use Rattle.tally.specs.Tally.{Counted};
+ghost use Rattle.bands.specs.Bands.{band_first};
 
 use retally::count_redrawn;
 use surface::Grid;
 use tally::Tally;
+
+// The first of the rows round a row, an even one.
+fn first_row(row: usize) -> usize
+    ensures { result ≡ band_first row }
+{
+    row.saturating_sub(2) / 2 * 2
+}
 
 // A count of the plot, by the one before and by those of some rows before and after.
 fn moved(all: u32, before: u32, after: u32) -> u32
@@ -35,7 +43,7 @@ pub fn recount(
 {
     let columns = grid.columns;
     let row = post / columns;
-    let first = row.saturating_sub(2) / 2 * 2;
+    let first = first_row(row);
     let end = (row + 3).min(grid.rows);
     let from = first * columns;
     let to = end * columns;

@@ -16,13 +16,17 @@ fn end_of(list: &[u16], p: usize) -> u16
     ensures { result ≡ path_end list.now p }
 {
     let mut e = list[p];
-    while let Some(next) = list.get(e as usize) {
+    // (a walk until its end; docs/DECISIONS.md, "Forms by location", names this form)
+    let end = loop {
+        let Some(next) = list.get(e as usize) else {
+            break e;
+        };
         if *next == e {
-            break;
+            break e;
         }
         e = *next;
-    }
-    e
+    };
+    end
 }
 
 // Makes the end the entry of every post on the path from p.

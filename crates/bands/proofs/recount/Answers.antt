@@ -1,6 +1,6 @@
 -- The counts of the rows round the post, before and after, tell those of the plot.
 use native.Mathlib.Omega.{arith}
-use Prim.Native.Nat.{◌*◌, ◌/◌, ◌≤◌}
+use Prim.Native.Nat.{◌*◌, ◌≤◌}
 use mathlib.Core.Path.{◌≡◌, sym, ◌∙◌, ap}
 use lib.ListN.{length}
 use Rattle.surface.specs.Plot.{plot_of, reshot}
@@ -19,8 +19,8 @@ held : (s : Start) → to_z w32 (of_z w32 s.args.height) ≡ s.args.height
 held s = search rules
 
 -- where the rows round the post stand
-stands : (c : After-min-end) → let a = c.args in Banded a.grid.rows a.grid.columns a.post (c.saturating_sub.result / 2 * 2) c.min-end.result
-stands c = band-rows _ _ c.requires.0 (ap (λ n. n / 2 * 2) c.saturating_sub.ensures) c.min-end.ensures
+stands : (c : After-min-end) → let a = c.args in Banded a.grid.rows a.grid.columns a.post c.first_row-first.result c.min-end.result
+stands c = band-rows _ _ c.requires.0 c.first_row-first.ensures c.min-end.ensures
 
 -- and how many posts there are
 sized : (s : Start) → let a = s.args in (length a.heights.now ≡ a.grid.rows * a.grid.columns) × (length a.patterns.now ≡ a.grid.rows * a.grid.columns) × (a.grid.rows * a.grid.columns ≤ 14400)
@@ -37,7 +37,7 @@ count_redrawn-both-requires c =
     let start = (goal.at.count_redrawn-both-requires c).Start in
     let r = stands (goal.at.count_redrawn-both-requires c).After-min-end in
     let v = c.requires.0.valid in
-    let from = (c.saturating_sub.result / 2 * 2) * c.args.grid.columns in
+    let from = c.first_row-first.result * c.args.grid.columns in
     let to = c.min-end.result * c.args.grid.columns in
     let b = band-size _ v _ _ r.cut in
     let z = sized start in
