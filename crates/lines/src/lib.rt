@@ -15,7 +15,8 @@ use line::draw_line;
 use surface::{DOWN, Refusal, Spacings, UP};
 use walk::Walk;
 
-// Next down from a post, or next up where `up`: what the two calls of C share.
+// Next down from a post, or next up where `up`: what the two calls of C share. (Inlined, so that the direction is a constant in each.)
+#[inline(always)]
 fn next_post(
     sheet: &[u8],
     rows: u32,

@@ -7,9 +7,7 @@ use borrow.Author.Tests.{ltb-true, ltb-false}
 use lib.Dec.{ltb}
 use lib.ListN.{length, get_or, get_or-eq_default}
 use lib.Seq.{ext_get_or}
-use Rattle.std.proofs.Common.{rules, ap, take, drop, replicate}
 use Rattle.surface.specs.Lists.{list_of, stores}
-use Rattle.surface.proofs.General.Slices.{fill-stores}
 use Rattle.surface.proofs.General.Bools.{either}
 use Rattle.surface.proofs.General.ListOf.{length-list_of, get_or-list_of}
 use Rattle.surface.proofs.General.Stores.{length-stores, stores-in, stores-out}
@@ -44,14 +42,14 @@ module _ (sheet name : List ℕ) (at n : ℕ) (size : length name ≡ 32) (few :
       let k : i < 32 = omega (arith, length-stores (λ _. 0) n (32 - n) copied, long) in
       put-at i k ∙ sym (get_or-list_of (byte sheet at) 32 i 0 k))
 
+pub clear_from-requires : goal.clear_from-requires
+clear_from-requires c = omega (arith, c.min-n.ensures, c.copy_bytes.auto, c.requires.1)
+
 pub returns : goal.returns
 returns c =
     let a = c.args in
     let e = c.min-n.ensures in
     let n = c.min-n.result in
-    let S = a.sheet.now in
-    let copied = c.copy_bytes.new.list in
-    let long : length copied ≡ 32 = omega (arith, c.copy_bytes.auto, c.requires.1) in
-    let room : length (take (length copied - n) (drop n copied)) ≡ length copied - n = search rules in
-    let cleared = fill-stores n (32 - n) (length copied) copied c.fill.new.self 0 (omega arith) (omega arith) (c.fill.ensures.after (λ y e. e) ∙ ap (λ k. replicate k 0) room) in
-    cleared ∙ ap (λ l. stores (λ _. 0) n (32 - n) l) c.copy_bytes.ensures ∙ is-put S a.name.now a.at n c.requires.1 (omega (arith, e)) (λ h. omega (arith, e))
+    let put = is-put a.sheet.now a.name.now a.at n c.requires.1 (omega (arith, e)) (λ h. omega (arith, e)) in
+    let size = length-stores (λ i. get_or a.sheet.now (a.at + i) 0) 0 n a.name.now ∙ c.requires.1 in
+    c.clear_from.ensures ∙ rw (c.copy_bytes.ensures, size) put
