@@ -28,7 +28,8 @@ pub fn survey(
 {
     let grid = survey_grid(sheet, rows, columns, heights, marks)?;
     mark_plot(heights, grid, marks);
-    Ok(count(marks))
+    let counts = count(marks);
+    Ok(counts)
 }
 
 // Puts a new height at one post, and works out afresh its mark and those of the posts that touch it. Refused: both lists stay as they were.

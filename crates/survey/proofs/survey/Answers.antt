@@ -35,15 +35,15 @@ returns-in_err-grid c =
 pub mark_plot-requires : goal.mark_plot-requires
 mark_plot-requires c = let a = accepted (goal.at.mark_plot-requires c).In_ok-grid in (a.valid, a.marks_size)
 
-pub count-requires : goal.count-requires
-count-requires c =
-    let a = accepted (goal.at.count-requires c).In_ok-grid in
+pub count-counts-requires : goal.count-counts-requires
+count-counts-requires c =
+    let a = accepted (goal.at.count-counts-requires c).In_ok-grid in
     omega (arith, c.mark_plot.auto.marks, a.marks_size, a.valid.sides)
 
 pub returns : goal.returns
 returns c =
     let s = served (goal.at.returns c).In_ok-grid in
     let w = c.mark_plot.ensures ∙ sym (survey-filled _ _ s.passed) in
-    let n = rw w at c.count.ensures in
+    let n = rw w at c.count-counts.ensures in
     rw s.same_plot
     record { value = rw (n.peaks_are, n.pits_are, n.saddles_are) (sym (survey-served _ _ s.passed)); marks_after = w }
